@@ -1,0 +1,56 @@
+-- Records, and when a stamp knows and applies one. A body is one word: what it says is not the ledger's business. Assumes nothing.
+use Prim.Native.Nat.{ℕ}
+use mathlib.Core.Bool.{Bool, not, _&&_}
+use mathlib.Core.List.{List, [], _∷_}
+use lib.Dec.{leb, ltb, eqb}
+use Rattle.lists.specs.Tests.{all, every, exists}
+use Rattle.stamp.specs.Stamp.{Stamp, part, atMost, replace, stampFits}
+
+pub record Record : Type 0 where
+  pub origin : ℕ
+  pub number : ℕ
+  pub label : Stamp
+  pub body : ℕ
+
+-- its stamp is its label with the origin's part replaced by the number
+unfoldable pub stampOf : Record → Stamp
+stampOf r = replace (r .label) (r .origin) (r .number)
+
+-- the order of the log: by origin, then number
+abbrev pub place : Record → List ℕ
+place r = r .origin ∷ r .number ∷ []
+
+-- known: number at most the known stamp's part for the origin
+unfoldable pub knows : Stamp → ℕ → ℕ → Bool
+knows s k q = leb q (part s k)
+
+unfoldable pub isKnown : Stamp → Record → Bool
+isKnown s r = knows s (r .origin) (r .number)
+
+-- applied: known, and the known stamp covers the record's label
+unfoldable pub isApplied : Stamp → Record → Bool
+isApplied s r = isKnown s r && atMost (r .label) s
+
+-- waiting: known, not applied
+unfoldable pub isWaiting : Stamp → Record → Bool
+isWaiting s r = isKnown s r && not (isApplied s r)
+
+-- known everywhere: every table row has it
+unfoldable pub everywhere : List Stamp → ℕ → ℕ → Bool
+everywhere rows k q = every (λ row. knows row k q) rows
+
+-- both applied and known everywhere: it may leave the log
+unfoldable pub mayGo : Stamp → List Stamp → Record → Bool
+mayGo s rows r = isApplied s r && everywhere rows (r .origin) (r .number)
+
+-- a list of records has number q of origin k
+unfoldable pub has : List Record → ℕ → ℕ → Bool
+has rs k q = exists (λ r. eqb (r .origin) k && eqb (r .number) q) rs
+
+-- the field rules of a record in a house of n screens; `bodyFits` is the rule of its body
+abbrev pub recordRules : (ℕ → Bool) → ℕ → Record → List Bool
+recordRules bodyFits n r =
+    ltb (r .origin) n ∷ leb 1 (r .number) ∷ ltb (part (r .label) (r .origin)) (r .number) ∷ stampFits n (r .label) ∷ bodyFits (r .body) ∷ []
+
+unfoldable pub recordFits : (ℕ → Bool) → ℕ → Record → Bool
+recordFits bodyFits n r = all (recordRules bodyFits n r)
