@@ -5,3 +5,4 @@ pub mod Sorted
 pub mod Scan
 pub mod Part
 pub mod Rows
+pub mod MoreFacts
