@@ -1,0 +1,6 @@
+pub mod Book
+pub mod Reply
+pub mod Step
+pub mod Cases
+pub mod Soundness
+pub mod Settle
