@@ -4,15 +4,16 @@ use native.Mathlib.Nat.{add-zero, suc-add, add-suc}
 use native.Mathlib.Omega.{arith}
 use mathlib.Core.Path.{_≡_, subst, refl, ap, sym, _∙_}
 use mathlib.Core.Logic.{_⊎_, _≢_, inl, inr}
-use mathlib.Core.Bool.{not, Bool, true, false, cond}
+use mathlib.Core.Bool.{not, Bool, true, false, cond, _||_}
 use mathlib.Core.List.{List, [], _∷_, map}
+use mathlib.Core.Option.{some, none}
 use lib.Dec.{eqb, T, eqb-refl, eqb→eq}
 use lib.ListN.{set, replicate, length, getD}
 use lib.Seq.{getD-set-same, getD-set-other}
-use Rattle.lists.specs.Facts.{either, tell, clash, bit, both, and-r, and-l, here, _∈_, there, is-true, is-false, keep-length, mem-keep, none-in}
+use Rattle.lists.specs.Facts.{either, tell, clash, bit, both, and-r, and-l, here, _∈_, there, is-true, is-false, keep-length, mem-keep, none-in, firstOf-some, every-at}
 use Rattle.lists.specs.Order.{insert, keyBefore}
 use Rattle.lists.specs.Sorted.{before-total}
-use Rattle.lists.specs.Tests.{every, numbers, keep}
+use Rattle.lists.specs.Tests.{every, numbers, keep, firstOf}
 
 pub eq→eqb : (a b : ℕ) → a ≡ b → T (eqb a b)
 eq→eqb a b e = subst (λ (x : ℕ). T (eqb a x)) e (eqb-refl a)
@@ -95,3 +96,26 @@ keep-some q xs m h = some-in (keep q xs) (mem-keep q xs m h)
     some-in : {A : Type 0} (ys : List A) {y : A} → y ∈ ys → 0 < length ys
     some-in [] n = none-in n
     some-in (z ∷ zs) n = omega arith
+
+-- when no test passes there is no first
+pub none-first : {A : Type 0} (cs : List (Bool × A)) → T (every (λ c. not (c .0)) cs) → firstOf cs ≡ none
+none-first [] t = refl
+none-first (c ∷ cs) t =
+    ap (λ (x : Bool). cond x (some (c .1)) (firstOf cs)) (is-false (c .0) (and-l (not (c .0)) (every (λ x. not (x .0)) cs) t))
+    ∙ none-first cs (and-r (not (c .0)) (every (λ x. not (x .0)) cs) t)
+
+-- a test on the replies of all stops holds of the first
+pub first-passes : {A : Type 0} (p : A → Bool) (cs : List (Bool × A)) → T (every (λ c. p (c .1)) cs) → (r : A) → firstOf cs ≡ some r → T (p r)
+first-passes {A} p cs t r e = go (firstOf-some cs r e)
+  where
+    go : ((c : Bool × A) × (c ∈ cs) × T (c .0) × (c .1 ≡ r)) → T (p r)
+    go w = subst (λ (x : A). T (p x)) (w .3) (every-at (λ c. p (c .1)) cs t (w .1))
+
+-- neither of two
+pub nor-l : (x y : Bool) → T (not (x || y)) → T (not x)
+nor-l true y n = n
+nor-l false y n = tt
+
+pub nor-r : (x y : Bool) → T (not (x || y)) → T (not y)
+nor-r true y n = absurd n
+nor-r false y n = n
