@@ -1,3 +1,7 @@
 pub mod Limits
 pub mod Record
 pub mod Message
+pub mod Log
+pub mod Cases
+pub mod RecordLaws
+pub mod LogLaws

@@ -6,3 +6,4 @@ pub mod Scan
 pub mod Part
 pub mod Rows
 pub mod EveryScan
+pub mod MoreFacts

@@ -51,15 +51,16 @@ before-word t u h k b =
     (λ g. either (before-cons (t .showing) (u .showing) (drop 4 (fields t)) (drop 4 (fields u)) (g .1)) (λ l. omega (arith, e .0, f .0, g .0))
     (λ i. either (before-cons (t .answer) (u .answer) (drop 5 (fields t)) (drop 5 (fields u)) (i .1)) (λ l. omega (arith, e .0, f .0, g .0, i .0)) (λ j. absurd (j .1))))))
 
-same-fields : (t u : Tap) → fields t ≡ fields u → t ≡ u
-same-fields t u e =
+-- the five fields settle a tap
+pub fields-same : (t u : Tap) → fields t ≡ fields u → t ≡ u
+fields-same t u e =
     λ i. record { front = getD (e i) 0 0; serial = getD (e i) 1 0; prompt = getD (e i) 2 0; showing = getD (e i) 3 0; answer = getD (e i) 4 0 }
 
 word-before : (t u : Tap) → FitsBits t → FitsBits u → wordOf t < wordOf u → T (keyBefore (fields t) (fields u))
 word-before t u h k l =
     either (tell (keyBefore (fields t) (fields u))) (λ b. b)
     (λ n. either (tell (keyBefore (fields u) (fields t))) (λ b. absurd (omega (arith, before-word u t k h b)))
-    (λ m. absurd (omega (arith, ap (λ (x : Tap). wordOf x) (same-fields t u (before-total (fields t) (fields u) n m))))))
+    (λ m. absurd (omega (arith, ap (λ (x : Tap). wordOf x) (fields-same t u (before-total (fields t) (fields u) n m))))))
 
 pub word-order : (t u : Tap) → FitsBits t → FitsBits u → keyBefore (fields t) (fields u) ≡ ltb (wordOf t) (wordOf u)
 word-order t u h k =
@@ -69,7 +70,7 @@ word-order t u h k =
 -- two taps are the same exactly when the words are
 pub same-tap : (t u : Tap) → T (sameTap t u) → t ≡ u
 unfolding sameTap
-same-tap t u s = same-fields t u (sameKey→≡ (fields t) (fields u) s)
+same-tap t u s = fields-same t u (sameKey→≡ (fields t) (fields u) s)
 
 pub tap-same : (t : Tap) → T (sameTap t t)
 unfolding sameTap
