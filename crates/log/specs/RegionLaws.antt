@@ -21,7 +21,8 @@ eightParts r = eqb (length (r .label)) 8
 
 pub row-record : (c : List ℕ) → length c ≡ rowLong → rowOf (recordAt c) ≡ c
 row-record c h =
-    let last : drop 8 (drop 2 c) ≡ getD c 10 0 ∷ [] = drop-drop 8 2 c ∙ rest c 10 (omega arith) ∙ ap (λ (l : List ℕ). getD c 10 0 ∷ l) (drop-of-length-le c (omega arith)) in
+    let over : length c ≤ 11 = omega arith in
+    let last : drop 8 (drop 2 c) ≡ getD c 10 0 ∷ [] = drop-drop 8 2 c ∙ rest c 10 (omega arith) ∙ ap (λ (l : List ℕ). getD c 10 0 ∷ l) (drop-of-length-le c over) in
     ap (λ (l : List ℕ). getD c 0 0 ∷ getD c 1 0 ∷ l) (ap (λ (l : List ℕ). take 8 (drop 2 c) ++ l) (sym last) ∙ take-append-drop 8 (drop 2 c))
     ∙ ap (λ (l : List ℕ). getD c 0 0 ∷ l) (sym (rest c 1 (omega arith)))
     ∙ sym (rest c 0 (omega arith))
