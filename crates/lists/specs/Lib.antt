@@ -7,3 +7,4 @@ pub mod Part
 pub mod Rows
 pub mod EveryScan
 pub mod MoreFacts
+pub mod RowLaws
