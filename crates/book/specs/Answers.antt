@@ -14,7 +14,8 @@ use Rattle.lists.specs.Tests.{firstOf, every}
 use Rattle.stamp.specs.Laws.{Covers, atMost-parts, parts-atMost}
 use Rattle.stamp.specs.Stamp.{Stamp, stampFits, atMost, part}
 use Rattle.tally.specs.Limits.{promptCount}
-use Rattle.tally.specs.Standing.{Standing, verdictOf, accepted}
+use Rattle.tally.specs.Standing.{verdictOf, accepted}
+use Rattle.tally.specs.declared.Standing.{Standing}
 use Rattle.book.specs.Book.{Book, standingAt, sound, known}
 use Rattle.book.specs.Reply.{Reply, isAnswered, permits, refusal, verdict, showingOf, taken, already, wait, gossiped, figures}
 use Rattle.book.specs.Soundness.{Sound, sound-at, at-sound}

@@ -7,8 +7,9 @@ use lib.ListN.{getD, replicate, length}
 use Rattle.lists.specs.Order.{rising}
 use Rattle.lists.specs.Tests.{every, all}
 use Rattle.stamp.specs.Stamp.{Stamp, zeros, stampFits, total, atMost}
-use Rattle.tally.specs.Standing.{Standing, blank, afresh, among, sameCounts}
+use Rattle.tally.specs.Standing.{blank, afresh, among, sameCounts}
 use Rattle.tally.specs.Tap.{tapsIn, fields, tapFits, bodyFits}
+use Rattle.tally.specs.declared.Standing.{Standing}
 use Rattle.tally.specs.declared.Tap.{Tap}
 use Rattle.ledger.specs.Limits.{logRoom, bookRoom}
 use Rattle.ledger.specs.Log.{waitingIn, allHeld}

@@ -14,10 +14,11 @@ use Rattle.lists.specs.Tests.{every}
 use Rattle.stamp.specs.Laws.{Fits, fits, Covers, atMost-parts, parts-atMost, zeros-part, total-mono, fits-test, fits-zeros}
 use Rattle.stamp.specs.Stamp.{stampFits, total, part, atMost, zeros}
 use Rattle.tally.specs.Limits.{promptCount}
-use Rattle.tally.specs.Standing.{Standing, afresh, among, sameCounts, standing, blank}
+use Rattle.tally.specs.Standing.{afresh, among, sameCounts, standing, blank}
 use Rattle.tally.specs.StandingLaws.{counts-same, counts-refl, afresh-at, afresh-few}
 use Rattle.tally.specs.Tap.{fields, tapFits, bodyFits, tapsIn}
 use Rattle.tally.specs.TapLaws.{among-mem, mem-among}
+use Rattle.tally.specs.declared.Standing.{Standing}
 use Rattle.tally.specs.declared.Tap.{Tap}
 use Rattle.ledger.specs.Limits.{logRoom, bookRoom}
 use Rattle.ledger.specs.Log.{waitingIn}

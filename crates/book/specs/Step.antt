@@ -9,8 +9,9 @@ use Rattle.lists.specs.Rows.{rows}
 use Rattle.lists.specs.Tests.{exists, firstOf}
 use Rattle.stamp.specs.Stamp.{Stamp, merge, part, replace, stampFits, total, atMost, excess}
 use Rattle.tally.specs.Limits.{promptCount}
-use Rattle.tally.specs.Standing.{countAll, afresh, among, Standing, verdictOf}
+use Rattle.tally.specs.Standing.{countAll, afresh, among, verdictOf}
 use Rattle.tally.specs.Tap.{tapsIn, wordOf, tapFits, bodyFits}
+use Rattle.tally.specs.declared.Standing.{Standing}
 use Rattle.tally.specs.declared.Tap.{Tap}
 use Rattle.ledger.specs.Limits.{bookRoom, logRoom}
 use Rattle.ledger.specs.Log.{newlyApplied, gathered, mergeAll, remaining, unknowns, gapless}

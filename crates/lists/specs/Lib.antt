@@ -8,4 +8,6 @@ pub mod Rows
 pub mod EveryScan
 pub mod MoreFacts
 pub mod RowLaws
+pub mod Neighbours
+pub mod Zeros
 pub mod Pieces

@@ -1,13 +1,14 @@
 -- The counted taps, and what a prompt's taps come to: the highest showing, its accepts and declines, the verdict. Assumes nothing.
-use Prim.Native.Nat.{ℕ, max, _+_}
+use Prim.Native.Nat.{ℕ, max, _+_, _<_}
 use mathlib.Core.Bool.{Bool, _&&_, true, false, cond}
 use mathlib.Core.List.{List, [], _∷_, map}
 use lib.Dec.{eqb, ltb}
 use lib.ListN.{length, set, getD}
 use Rattle.lists.specs.Order.{insert, insertAll, sameKey}
 use Rattle.lists.specs.Tests.{exists, keep, numbers}
-use Rattle.tally.specs.Limits.{accept, decline, promptCount}
+use Rattle.tally.specs.Limits.{accept, decline, promptCount, countLimit}
 use Rattle.tally.specs.Tap.{sameTap, fields}
+use Rattle.tally.specs.declared.Standing.{Standing}
 use Rattle.tally.specs.declared.Tap.{Tap}
 
 -- the tap is among some taps
@@ -22,11 +23,6 @@ unfoldable pub distinct : List Tap → List Tap
 distinct ts = countAll ts []
 
 -- for each prompt the highest showing among its counted taps (0 if none), and how many of that showing are accepts and declines
-pub record Standing : Type 0 where
-  pub showing : ℕ
-  pub accepts : ℕ
-  pub declines : ℕ
-
 unfoldable pub ofPrompt : ℕ → List Tap → List Tap
 ofPrompt p ts = keep (λ t. eqb (t .prompt) p) ts
 
@@ -87,6 +83,11 @@ unfoldable pub noted : Tap → Standing → Standing
 noted t s =
     cond (ltb (s .showing) (t .showing)) (record { showing = t .showing; accepts = oneIf accept t; declines = oneIf decline t })
     (cond (eqb (t .showing) (s .showing)) (record { showing = s .showing; accepts = s .accepts + oneIf accept t; declines = s .declines + oneIf decline t }) s)
+
+-- one more tap can be noted in 64 bits
+pub record CountsFit (s : Standing) : Type 0 where
+  pub accepts : s .accepts < countLimit
+  pub declines : s .declines < countLimit
 
 -- a tap that is not among the counted ones is put in its place and noted at its prompt
 unfoldable pub count : Tap → List Tap × List Standing → List Tap × List Standing

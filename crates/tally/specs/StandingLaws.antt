@@ -16,10 +16,11 @@ use Rattle.lists.specs.Order.{rising, insert, insertAll, sameKey}
 use Rattle.lists.specs.Sorted.{insert-same, put-all, Put, sameKey→≡, sameKey-refl}
 use Rattle.lists.specs.Tests.{keep, numbers}
 use Rattle.tally.specs.Limits.{accept, decline, promptCount}
-use Rattle.tally.specs.Standing.{highest, howMany, count, oneIf, standing, Standing, noted, standingOf, ofPrompt, afresh, blank, among, counting, countAll, counts, sameCounts, contested, verdictOf, declined, accepted}
+use Rattle.tally.specs.Standing.{highest, howMany, count, oneIf, standing, noted, standingOf, ofPrompt, afresh, blank, among, counting, countAll, counts, sameCounts, contested, verdictOf, declined, accepted}
 use Rattle.tally.specs.Tap.{fields}
 use Rattle.tally.specs.TapLaws.{among-mem, mem-among}
 use Rattle.tally.specs.WordLaws.{fields-same}
+use Rattle.tally.specs.declared.Standing.{Standing}
 use Rattle.tally.specs.declared.Tap.{Tap}
 
 more-highest : (t : Tap) {ts us : List Tap} → OneMore t ts us → highest us ≡ max (t .showing) (highest ts)
@@ -56,15 +57,15 @@ oneIf-bit a t = go (eqb (t .answer) a)
 standing-path : (s s′ a a′ d d′ : ℕ) → s ≡ s′ → a ≡ a′ → d ≡ d′ → _≡_ {A = Standing} (record { showing = s; accepts = a; declines = d }) (record { showing = s′; accepts = a′; declines = d′ })
 standing-path s s′ a a′ d d′ p q r = λ i. record { showing = p i; accepts = q i; declines = r i }
 
-noted-higher : (t : Tap) (s : Standing) → s .showing < t .showing → noted t s ≡ record { showing = t .showing; accepts = oneIf accept t; declines = oneIf decline t }
+pub noted-higher : (t : Tap) (s : Standing) → s .showing < t .showing → noted t s ≡ record { showing = t .showing; accepts = oneIf accept t; declines = oneIf decline t }
 unfolding noted
 noted-higher t s h = rw (lt-ltb (s .showing) (t .showing) h)
 
-noted-equal : (t : Tap) (s : Standing) → t .showing ≡ s .showing → noted t s ≡ record { showing = s .showing; accepts = s .accepts + oneIf accept t; declines = s .declines + oneIf decline t }
+pub noted-equal : (t : Tap) (s : Standing) → t .showing ≡ s .showing → noted t s ≡ record { showing = s .showing; accepts = s .accepts + oneIf accept t; declines = s .declines + oneIf decline t }
 unfolding noted
 noted-equal t s e = rw (le-ltb (s .showing) (t .showing) (omega (arith, e)), eq-eqb (t .showing) (s .showing) e)
 
-noted-lower : (t : Tap) (s : Standing) → t .showing ≤ s .showing → t .showing ≢ s .showing → noted t s ≡ s
+pub noted-lower : (t : Tap) (s : Standing) → t .showing ≤ s .showing → t .showing ≢ s .showing → noted t s ≡ s
 unfolding noted
 noted-lower t s h d = rw (le-ltb (s .showing) (t .showing) h, ne-eqb (t .showing) (s .showing) d)
 

@@ -1,18 +1,18 @@
 -- Laws of the word: word and fields give each other back, the numeric order of words is the order of the five fields, and two
 -- taps are the same exactly when the words are. Assumes nothing.
-use Prim.Native.Nat.{ℕ, _+_, _*_, _/_, _%_, _<_, _^_}
+use Prim.Native.Nat.{ℕ, _/_, _%_, _<_, _^_}
 use native.Mathlib.Omega.{arith}
-use mathlib.Core.Path.{_≡_, refl, sym, ap, subst, _∙_}
-use mathlib.Core.Bool.{Bool, true, false}
+use mathlib.Core.Path.{_≡_, refl, sym, ap, ap₂, subst, _∙_}
+use mathlib.Core.Bool.{true}
 use lib.Dec.{T, leb, ltb, eqb, leb→le, ltb→lt, lt→ltb, eqb→eq, eqb-refl}
 use lib.ListN.{getD, drop}
-use Rattle.lists.specs.Tests.{all, every}
+use Rattle.lists.specs.Tests.{all}
 use Rattle.lists.specs.Order.{sameKey, keyBefore}
 use Rattle.lists.specs.Facts.{either, tell, and-l, and-r, both, all-at, same-test}
 use Rattle.lists.specs.Sorted.{before-cons, before-total, sameKey→≡, sameKey-refl}
 use Rattle.tally.specs.declared.Tap.{Tap}
 use Rattle.tally.specs.Limits.{frontEnds, serials, promptCount, showings, accept, decline}
-use Rattle.tally.specs.Tap.{fields, sameTap, tapRules, tapFits, FitsBits, wordOf, tapOf, tapsIn, bodyFits}
+use Rattle.tally.specs.Tap.{fields, sameTap, tapRules, tapFits, FitsBits, wordOf, tapOf, bodyFits}
 
 -- a tap that keeps the field rules fits the word
 pub fits-bits : (t : Tap) → T (tapFits t) → FitsBits t
@@ -42,8 +42,21 @@ tap-word t h =
 pub word-small : (t : Tap) → FitsBits t → wordOf t < 2 ^ 64
 word-small t h = omega arith
 
+-- the fields below the front end fit their bits: all that the order needs, and so of any number
+record LowFits (t : Tap) : Type 0 where
+  serial : t .serial < 4294967296
+  prompt : t .prompt < 64
+  showing : t .showing < 65536
+  answer : t .answer < 4
+
+low-bits : (t : Tap) → FitsBits t → LowFits t
+low-bits t h = record { serial = h .serial; prompt = h .prompt; showing = h .showing; answer = h .answer }
+
+low-word : (w : ℕ) → LowFits (tapOf w)
+low-word w = record { serial = omega arith; prompt = omega arith; showing = omega arith; answer = omega arith }
+
 -- the order of words is the order of the five fields
-before-word : (t u : Tap) → FitsBits t → FitsBits u → T (keyBefore (fields t) (fields u)) → wordOf t < wordOf u
+before-word : (t u : Tap) → LowFits t → LowFits u → T (keyBefore (fields t) (fields u)) → wordOf t < wordOf u
 before-word t u h k b =
     either (before-cons (t .front) (u .front) (drop 1 (fields t)) (drop 1 (fields u)) b) (λ l. omega arith)
     (λ e. either (before-cons (t .serial) (u .serial) (drop 2 (fields t)) (drop 2 (fields u)) (e .1)) (λ l. omega (arith, e .0))
@@ -56,16 +69,22 @@ pub fields-same : (t u : Tap) → fields t ≡ fields u → t ≡ u
 fields-same t u e =
     λ i. record { front = getD (e i) 0 0; serial = getD (e i) 1 0; prompt = getD (e i) 2 0; showing = getD (e i) 3 0; answer = getD (e i) 4 0 }
 
-word-before : (t u : Tap) → FitsBits t → FitsBits u → wordOf t < wordOf u → T (keyBefore (fields t) (fields u))
+word-before : (t u : Tap) → LowFits t → LowFits u → wordOf t < wordOf u → T (keyBefore (fields t) (fields u))
 word-before t u h k l =
     either (tell (keyBefore (fields t) (fields u))) (λ b. b)
     (λ n. either (tell (keyBefore (fields u) (fields t))) (λ b. absurd (omega (arith, before-word u t k h b)))
     (λ m. absurd (omega (arith, ap (λ (x : Tap). wordOf x) (fields-same t u (before-total (fields t) (fields u) n m))))))
 
-pub word-order : (t u : Tap) → FitsBits t → FitsBits u → keyBefore (fields t) (fields u) ≡ ltb (wordOf t) (wordOf u)
-word-order t u h k =
+order : (t u : Tap) → LowFits t → LowFits u → keyBefore (fields t) (fields u) ≡ ltb (wordOf t) (wordOf u)
+order t u h k =
     same-test (keyBefore (fields t) (fields u)) (ltb (wordOf t) (wordOf u)) (λ b. lt→ltb (wordOf t) (wordOf u) (before-word t u h k b))
     (λ l. word-before t u h k (ltb→lt (wordOf t) (wordOf u) l))
+
+pub word-order : (t u : Tap) → FitsBits t → FitsBits u → keyBefore (fields t) (fields u) ≡ ltb (wordOf t) (wordOf u)
+word-order t u h k = order t u (low-bits t h) (low-bits u k)
+
+pub tap-order : (v w : ℕ) → keyBefore (fields (tapOf v)) (fields (tapOf w)) ≡ ltb v w
+tap-order v w = order (tapOf v) (tapOf w) (low-word v) (low-word w) ∙ ap₂ ltb (word-tap v) (word-tap w)
 
 -- two taps are the same exactly when the words are
 pub same-tap : (t u : Tap) → T (sameTap t u) → t ≡ u
@@ -80,6 +99,12 @@ pub same-word : (t u : Tap) → FitsBits t → FitsBits u → sameTap t u ≡ eq
 same-word t u h k =
     same-test (sameTap t u) (eqb (wordOf t) (wordOf u)) (λ s. subst (λ (x : Tap). T (eqb (wordOf t) (wordOf x))) (same-tap t u s) (eqb-refl (wordOf t)))
     (λ e. subst (λ (x : Tap). T (sameTap t x)) (sym (tap-word t h) ∙ ap tapOf (eqb→eq (wordOf t) (wordOf u) e) ∙ tap-word u k) (tap-same t))
+
+pub tap-equal : (v w : ℕ) → sameTap (tapOf v) (tapOf w) ≡ eqb v w
+tap-equal v w =
+    same-test (sameTap (tapOf v) (tapOf w)) (eqb v w)
+    (λ s. subst (λ (x : ℕ). T (eqb v x)) (sym (word-tap v) ∙ ap wordOf (same-tap (tapOf v) (tapOf w) s) ∙ word-tap w) (eqb-refl v))
+    (λ e. subst (λ (x : ℕ). T (sameTap (tapOf v) (tapOf x))) (eqb→eq v w e) (tap-same (tapOf v)))
 
 -- a body keeps its rule exactly when its tap keeps the field rules
 pub body-tap : (w : ℕ) → T (bodyFits w) → T (tapFits (tapOf w))

@@ -2,7 +2,9 @@
 ghost use mathlib.Core.Path.{_≡_};
 ghost use mathlib.Core.Bool.{_&&_};
 ghost use lib.Dec.{leb, ltb};
+ghost use Prim.Native.Nat.{_≤_};
 ghost use Rattle.tally.specs.Limits.{frontEnds, serials, promptCount, showings, accept, decline};
+ghost use Rattle.tally.specs.Standing.{CountsFit, oneIf, noted, verdictOf};
 ghost use Rattle.tally.specs.Tap.{FitsBits, tapFits, wordOf, tapOf};
 
 const LAST_FRONT_END: u64 = 255;
@@ -17,6 +19,14 @@ const ACCEPT: u64 = 1;
 
 const DECLINE: u64 = 2;
 
+const UNASKED: u64 = 0;
+
+const ACCEPTED: u64 = 1;
+
+const DECLINED: u64 = 2;
+
+const CONTESTED: u64 = 3;
+
 // A tap's five fields, in document 01's order.
 pub struct Tap {
     pub front: u64,
@@ -24,6 +34,13 @@ pub struct Tap {
     pub prompt: u64,
     pub showing: u64,
     pub answer: u64,
+}
+
+// A prompt's standing: the highest showing among its counted taps (0 if none), and how many of that showing are accepts and declines.
+pub struct Standing {
+    pub showing: u64,
+    pub accepts: u64,
+    pub declines: u64,
 }
 
 // The tap in one word, from the top: front end 8 bits, serial 32, prompt 6, showing 16, answer 2.
@@ -110,4 +127,43 @@ pub fn fits(t: Tap) -> bool
         return false;
     }
     answer_fits(t.answer)
+}
+
+fn one_if(t: Tap, answer: u64) -> u64
+    ensures { λ r. ⌜ (r ≡ oneIf answer t) × (r ≤ 1) ⌝ }
+{
+    if t.answer == answer { 1 } else { 0 }
+}
+
+// A prompt's standing with one more tap of it.
+pub fn noted(t: Tap, s: Standing) -> Standing
+    requires { ⌜ CountsFit s ⌝ }
+    ensures { λ r. ⌜ r ≡ noted t s ⌝ }
+{
+    if t.showing < s.showing {
+        return s;
+    }
+    let accepts = one_if(t, ACCEPT);
+    let declines = one_if(t, DECLINE);
+    if s.showing < t.showing {
+        return Standing {
+            showing: t.showing,
+            accepts: accepts,
+            declines: declines,
+        };
+    }
+    Standing {
+        showing: s.showing,
+        accepts: s.accepts + accepts,
+        declines: s.declines + declines,
+    }
+}
+
+pub fn verdict_of(s: Standing) -> u64
+    ensures { λ r. ⌜ r ≡ verdictOf s ⌝ }
+{
+    if s.accepts == 0 {
+        return if s.declines == 0 { UNASKED } else { DECLINED };
+    }
+    if s.declines == 0 { ACCEPTED } else { CONTESTED }
 }
