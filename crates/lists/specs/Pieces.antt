@@ -1,10 +1,11 @@
 -- A list as pieces of given lengths, one after the other: which part each piece is, and what putting another in its place does.
 -- Assumes nothing.
-use Prim.Native.Nat.{ℕ, zero, suc, _+_, _<_}
+use Prim.Native.Nat.{ℕ, zero, suc, _+_, _≤_, _<_}
+use native.Mathlib.Nat.{zero-add}
 use native.Mathlib.Omega.{arith}
 use mathlib.Core.Path.{_≡_, refl, sym, ap, ap₂, _∙_}
 use mathlib.Core.List.{List, [], _∷_, _++_, map, append-assoc}
-use lib.ListN.{length, take, drop, getD, set, length-drop, length-map, take-append-drop}
+use lib.ListN.{length, take, drop, getD, set, length-drop, length-map, take-append-drop, drop-of-length-le}
 use lib.Seq.{drop-at, drop-drop, take-append-seam, take-append-add, drop-append-add}
 use Rattle.lists.specs.Part.{mid, patch}
 use Rattle.lists.specs.Rows.{flat}
@@ -15,25 +16,40 @@ sumOf [] = 0
 sumOf (n ∷ ns) = n + sumOf ns
 
 -- a list cut into pieces of these lengths
-abbrev pub cut : List ℕ → List ℕ → List (List ℕ)
+unfoldable cut : List ℕ → List ℕ → List (List ℕ)
 cut [] l = []
 cut (n ∷ ns) l = take n l ∷ cut ns (drop n l)
 
-pub flat-cut : (ns l : List ℕ) → length l ≡ sumOf ns → flat (cut ns l) ≡ l
-unfolding flat
-flat-cut [] [] e = refl
-flat-cut [] (x ∷ l) e = absurd (omega arith)
-flat-cut (n ∷ ns) l e = ap (λ (r : List ℕ). take n l ++ r) (flat-cut ns (drop n l) (simp length-drop (omega arith))) ∙ take-append-drop n l
+-- the parts of these lengths, from a place on
+abbrev pub parted : ℕ → List ℕ → List ℕ → List (List ℕ)
+parted a [] l = []
+parted a (n ∷ ns) l = mid a n l ∷ parted (a + n) ns l
+
+flat-parted : (a : ℕ) (ns l : List ℕ) → length l ≡ a + sumOf ns → flat (parted a ns l) ≡ drop a l
+unfolding flat mid
+flat-parted a [] l e = let h : length l ≤ a = omega arith in sym (drop-of-length-le l h)
+flat-parted a (n ∷ ns) l e =
+    ap (λ (r : List ℕ). take n (drop a l) ++ r) (flat-parted (a + n) ns l (omega arith) ∙ sym (drop-drop n a l)) ∙ take-append-drop n (drop a l)
+
+-- a list is its parts
+pub all-parts : (ns l : List ℕ) → length l ≡ sumOf ns → flat (parted 0 ns l) ≡ l
+all-parts ns l e = flat-parted 0 ns l (rw zero-add e)
+
+-- each part ends within the list
+pub piece-ends : (ns : List ℕ) (i : ℕ) → i < length ns → sumOf (take i ns) + getD ns i 0 ≤ sumOf ns
+piece-ends [] i h = absurd (omega arith)
+piece-ends (n ∷ ns) zero h = omega arith
+piece-ends (n ∷ ns) (suc i) h = omega (arith, piece-ends ns i (omega arith))
 
 -- the i-th piece is the part that starts where the pieces before it end
-pub cut-at : (ns l : List ℕ) (i : ℕ) → i < length ns → getD (cut ns l) i [] ≡ mid (sumOf (take i ns)) (getD ns i 0) l
-unfolding mid
+cut-at : (ns l : List ℕ) (i : ℕ) → i < length ns → getD (cut ns l) i [] ≡ mid (sumOf (take i ns)) (getD ns i 0) l
+unfolding mid cut
 cut-at [] l i h = absurd (omega arith)
 cut-at (n ∷ ns) l zero h = refl
 cut-at (n ∷ ns) l (suc i) h = cut-at ns (drop n l) i (omega arith) ∙ ap (take (getD ns i 0)) (drop-drop (sumOf (take i ns)) n l)
 
-pub cut-flat : (cs : List (List ℕ)) → cut (map length cs) (flat cs) ≡ cs
-unfolding flat
+cut-flat : (cs : List (List ℕ)) → cut (map length cs) (flat cs) ≡ cs
+unfolding flat cut
 cut-flat [] = refl
 cut-flat (c ∷ cs) = ap₂ _∷_ (take-append-seam c (flat cs)) (ap (cut (map length cs)) (drop-at c (flat cs) (length c) refl) ∙ cut-flat cs)
 

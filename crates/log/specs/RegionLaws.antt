@@ -42,7 +42,7 @@ module _ (r : Record) (h : T (eightParts r)) where
       λ i. record { origin = r .origin; number = r .number; label = l i; body = b i }
 
 -- some records as rows, and back
-wide-records : (rs : List Record) → T (every eightParts rs) → Wide rowLong (map rowOf rs)
+pub wide-records : (rs : List Record) → T (every eightParts rs) → Wide rowLong (map rowOf rs)
 unfolding Wide
 wide-records [] h = tt
 wide-records (r ∷ rs) h = (length-row r (and-l (eightParts r) (every eightParts rs) h), wide-records rs (and-r (eightParts r) (every eightParts rs) h))

@@ -1,0 +1,1 @@
+// The book on a lent slice: where each piece stands.
