@@ -1,0 +1,35 @@
+-- The book put in order in place, record by record: what a step does after its rows are set and its new records are in the log.
+-- Assumes nothing.
+use mathlib.Core.Bool.{Bool, not, _&&_, cond}
+use mathlib.Core.List.{List, [], _∷_}
+use Rattle.lists.specs.Order.{insert}
+use Rattle.stamp.specs.Stamp.{Stamp, merge}
+use Rattle.tally.specs.Standing.{among}
+use Rattle.tally.specs.Tap.{fields, tapOf}
+use Rattle.tally.specs.declared.Tap.{Tap}
+use Rattle.ledger.specs.Log.{remaining}
+use Rattle.ledger.specs.Record.{Record, stampOf, isApplied}
+use Rattle.prompts.specs.Region.{notedAt}
+use Rattle.book.specs.Book.{Book, known}
+use Rattle.layout.specs.With.{withValue, withLog, withCounted, withPrompts}
+
+-- a tap that is not among the counted ones is put in its place and noted at its prompt
+unfoldable pub countOne : Tap → Book → Book
+countOne t b = cond (among (b .counted) t) b (withCounted (insert fields t (b .counted)) (withPrompts (notedAt t (b .prompts)) b))
+
+-- applied under the known stamp `now`, and not under the one before
+unfoldable pub isNew : Stamp → Stamp → Record → Bool
+isNew before now r = isApplied now r && not (isApplied before r)
+
+-- a newly applied record adds to the value stamp and the counted taps that it finds
+unfoldable pub applyOne : Stamp → Stamp → Record → Book → Book
+applyOne before now r b = cond (isNew before now r) (countOne (tapOf (r .body)) (withValue (merge (stampOf r) (b .value)) b)) b
+
+-- every record of a list, the last one first
+abbrev pub applyAll : Stamp → Stamp → List Record → Book → Book
+applyAll before now [] b = b
+applyAll before now (r ∷ rs) b = applyOne before now r (applyAll before now rs b)
+
+-- the log's newly applied records applied, then what may go dropped
+unfoldable pub settled : Stamp → Book → Book
+settled before b = withLog (remaining (known b) (b .table) (b .log)) (applyAll before (known b) (b .log) b)

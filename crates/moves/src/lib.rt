@@ -1,0 +1,1 @@
+// The book put in order, in place.
