@@ -79,13 +79,16 @@ unfolding insertedAt tapsAt wordKey
 inserted-by-words n w r = rw (← map-insert tapOf wordKey fields (λ v. refl) w (take n r), words-of (insert wordKey w (take n r)))
 
 -- a tap that is not among some taps makes them one more
+pub one-more : (t : Tap) (ts : List Tap) → T (not (among ts t)) → OneMore t ts (insert fields t ts)
+one-more t ts n =
+    insert-new fields t ts (λ u m e. clash (among ts t) (mem-among t ts (subst (λ (x : Tap). x ∈ ts) (sym (fields-same t u e)) m)) n)
+
 one-longer : {t : Tap} {ts us : List Tap} → OneMore t ts us → length us ≡ suc (length ts)
 one-longer at = refl
 one-longer (later r) = ap suc (one-longer r)
 
 pub length-insert : (t : Tap) (ts : List Tap) → T (not (among ts t)) → length (insert fields t ts) ≡ suc (length ts)
-length-insert t ts n =
-    one-longer (insert-new fields t ts (λ u m e. clash (among ts t) (mem-among t ts (subst (λ (x : Tap). x ∈ ts) (sym (fields-same t u e)) m)) n))
+length-insert t ts n = one-longer (one-more t ts n)
 
 module _ (n w : ℕ) (r : List ℕ) (h : n < length r) (new : T (not (among (tapsAt n r) (tapOf w)))) where
   long : length (map wordOf (insert fields (tapOf w) (tapsAt n r))) ≡ n + 1

@@ -10,3 +10,4 @@ pub mod MoreFacts
 pub mod RowLaws
 pub mod Neighbours
 pub mod Zeros
+pub mod FirstScan
