@@ -7,9 +7,10 @@ use mathlib.Core.Logic.{_≢_}
 use mathlib.Core.Bool.{Bool, true, false, not, _&&_}
 use mathlib.Core.List.{List, [], _∷_, _++_, map, append-assoc}
 use lib.Dec.{T, eqb, ltb}
-use lib.ListN.{length, take, drop, getD, set, length-set, drop-of-length-le, take-append-drop}
+use lib.ListN.{length, take, drop, getD, set, length-set, take-append-drop}
 use lib.Seq.{length-take-le, getD-take, take-take, take-suc, take-set-le, drop-set-lt, getD-set-same, set-split}
 use borrow.Author.Tests.{eq-eqb, ne-eqb, lt-ltb, le-ltb}
+use Rattle.lists.specs.FirstScan.{first-rest, first-end}
 use Rattle.lists.specs.Facts.{either, clash, or-l, or-r}
 use Rattle.lists.specs.MoreFacts.{eq→eqb}
 use Rattle.lists.specs.Neighbours.{rising-next, rising-front, insert-before, insert-last}
@@ -23,20 +24,14 @@ use Rattle.counted.specs.RegionLaws.{wordKey, word-before, rising-taps, 
 
 -- the words before the n-th, from the i-th on
 module _ (r : List ℕ) (n i : ℕ) (room : n ≤ length r) (h : i < n) where
-  first-rest : drop i (take n r) ≡ getD r i 0 ∷ drop (i + 1) (take n r)
-  first-rest = rest (take n r) i (rw (length-take-le n r room) h) ∙ rw (getD-take n r i 0 h)
-
   pub has-here : (w : ℕ) → getD r i 0 ≡ w → exists (eqb w) (drop i (take n r)) ≡ true
-  has-here w e = rw (first-rest, eq-eqb w (getD r i 0) (sym e))
+  has-here w e = rw (first-rest r n i room h, eq-eqb w (getD r i 0) (sym e))
 
   pub has-on : (w : ℕ) → (getD r i 0 ≡ w → ⊥) → exists (eqb w) (drop i (take n r)) ≡ exists (eqb w) (drop (i + 1) (take n r))
-  has-on w d = rw (first-rest, ne-eqb w (getD r i 0) (λ e. d (sym e)))
+  has-on w d = rw (first-rest r n i room h, ne-eqb w (getD r i 0) (λ e. d (sym e)))
 
   pub fit-step : every tapFits (map tapOf (drop i (take n r))) ≡ (tapFits (tapOf (getD r i 0)) && every tapFits (map tapOf (drop (i + 1) (take n r))))
-  fit-step = rw first-rest
-
-pub first-end : (r : List ℕ) (n i : ℕ) → n ≤ length r → n ≤ i → drop i (take n r) ≡ []
-first-end r n i room h = let k : length (take n r) ≤ i = rw (length-take-le n r room) h in drop-of-length-le (take n r) k
+  fit-step = rw (first-rest r n i room h)
 
 -- two neighbours
 module _ (r : List ℕ) (n j : ℕ) (room : n ≤ length r) (h : j + 1 < n) where

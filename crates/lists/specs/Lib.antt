@@ -11,3 +11,4 @@ pub mod RowLaws
 pub mod Neighbours
 pub mod Zeros
 pub mod Pieces
+pub mod FirstScan

@@ -2,7 +2,7 @@
 use Prim.Native.Nat.{ℕ, zero, suc, _+_, _*_, _<_}
 use native.Mathlib.Nat.{add-zero}
 use native.Mathlib.Omega.{arith}
-use mathlib.Core.Path.{_≡_, refl, sym, ap, ap₂, _∙_}
+use mathlib.Core.Path.{_≡_, refl, sym, ap, _∙_}
 use mathlib.Core.Bool.{Bool, true, false, not, _&&_}
 use mathlib.Core.List.{List, [], _∷_, map}
 use lib.Dec.{T, eqb}
@@ -64,35 +64,35 @@ unfolding standingWords
 length-words ss h = length-cells ss ∙ ap (λ (n : ℕ). n * standingLong) h ∙ long
 
 -- one standing, by its place
-pub standing-words : (r : List ℕ) (p : ℕ) → p < promptCount → getD (standingsAt r) p blank ≡ record { showing = getD r (p * 3) 0; accepts = getD r (p * 3 + 1) 0; declines = getD r (p * 3 + 2) 0 }
+pub standing-words : (r : List ℕ) (p : ℕ) → p < promptCount → getD (standingsAt r) p blank ≡ record { showing = getD r (p * standingLong) 0; accepts = getD r (p * standingLong + 1) 0; declines = getD r (p * standingLong + 2) 0 }
 unfolding standingsAt
 standing-words r p h =
-    let first : getD (take 3 (drop (p * 3) r)) 0 0 ≡ getD r (p * 3) 0 = word 0 (omega arith) ∙ ap (λ (k : ℕ). getD r k 0) (add-zero (p * 3)) in
+    let first : getD (take standingLong (drop (p * standingLong) r)) 0 0 ≡ getD r (p * standingLong) 0 = word 0 (omega arith) ∙ ap (λ (k : ℕ). getD r k 0) (add-zero (p * standingLong)) in
     List·getD-map standingIn (rows standingLong promptCount r) p []
     ∙ ap standingIn (rows-at standingLong promptCount r p h)
     ∙ (λ i. record { showing = first i; accepts = word 1 (omega arith) i; declines = word 2 (omega arith) i })
   where
-    word : (k : ℕ) → k < 3 → getD (take 3 (drop (p * 3) r)) k 0 ≡ getD r (p * 3 + k) 0
-    word k l = getD-take 3 (drop (p * 3) r) k 0 l ∙ getD-drop (p * 3) r k 0
+    word : (k : ℕ) → k < standingLong → getD (take standingLong (drop (p * standingLong) r)) k 0 ≡ getD r (p * standingLong + k) 0
+    word k l = getD-take standingLong (drop (p * standingLong) r) k 0 l ∙ getD-drop (p * standingLong) r k 0
 
 put-cell :
     (ss : List Standing) (p : ℕ) (s : Standing) → p < length ss
-    → set (set (set (flat (map counts ss)) (p * 3) (s .showing)) (p * 3 + 1) (s .accepts)) (p * 3 + 2) (s .declines) ≡ flat (map counts (set ss p s))
+    → set (set (set (flat (map counts ss)) (p * standingLong) (s .showing)) (p * standingLong + 1) (s .accepts)) (p * standingLong + 2) (s .declines) ≡ flat (map counts (set ss p s))
 unfolding flat
 put-cell [] p s h = absurd (omega arith)
 put-cell (x ∷ ss) zero s h = refl
 put-cell (x ∷ ss) (suc p) s h =
-    let e : suc p * 3 ≡ suc (suc (suc (p * 3))) = omega arith in
-    let f : suc p * 3 + 1 ≡ suc (suc (suc (p * 3 + 1))) = omega arith in
-    let g : suc p * 3 + 2 ≡ suc (suc (suc (p * 3 + 2))) = omega arith in
+    let e : suc p * standingLong ≡ suc (suc (suc (p * standingLong))) = omega arith in
+    let f : suc p * standingLong + 1 ≡ suc (suc (suc (p * standingLong + 1))) = omega arith in
+    let g : suc p * standingLong + 2 ≡ suc (suc (suc (p * standingLong + 2))) = omega arith in
     rw (g, f, e) (ap (λ (l : List ℕ). x .showing ∷ x .accepts ∷ x .declines ∷ l) (put-cell ss p s (omega arith)))
 
 pub words-set :
     (r : List ℕ) (p : ℕ) (s : Standing) → length r ≡ promptWords → p < promptCount
-    → set (set (set r (p * 3) (s .showing)) (p * 3 + 1) (s .accepts)) (p * 3 + 2) (s .declines) ≡ standingWords (set (standingsAt r) p s)
+    → set (set (set r (p * standingLong) (s .showing)) (p * standingLong + 1) (s .accepts)) (p * standingLong + 2) (s .declines) ≡ standingWords (set (standingsAt r) p s)
 unfolding standingWords
 words-set r p s h k =
-    ap (λ (l : List ℕ). set (set (set l (p * 3) (s .showing)) (p * 3 + 1) (s .accepts)) (p * 3 + 2) (s .declines)) (sym (words-standings r h))
+    ap (λ (l : List ℕ). set (set (set l (p * standingLong) (s .showing)) (p * standingLong + 1) (s .accepts)) (p * standingLong + 2) (s .declines)) (sym (words-standings r h))
     ∙ put-cell (standingsAt r) p s (omega (arith, length-standings r))
 
 -- no tap yet: every word is zero
@@ -127,6 +127,13 @@ same-counts [] (y ∷ ys) h = absurd (omega arith)
 same-counts (x ∷ xs) [] h = absurd (omega arith)
 same-counts (x ∷ xs) (y ∷ ys) h = sym (same-cell x y (standingWords xs) (standingWords ys)) ∙ ap (λ (c : Bool). sameKey (counts x) (counts y) && c) (same-counts xs ys (omega arith))
 
+-- the words of standings with one more tap noted hold them
+pub length-noted : (t : Tap) (ss : List Standing) → length (notedAt t ss) ≡ length ss
+length-noted t ss = length-set ss (t .prompt) (noted t (getD ss (t .prompt) blank))
+
+pub standings-noted : (t : Tap) (ss : List Standing) → length ss ≡ promptCount → standingsAt (standingWords (notedAt t ss)) ≡ notedAt t ss
+standings-noted t ss h = standings-words (notedAt t ss) (length-noted t ss ∙ h)
+
 -- one more tap changes one standing, whether it comes first or in its place among the counted taps
 pub prompt-word : (w : ℕ) → (tapOf w) .prompt < promptCount
 unfolding promptCount
@@ -137,6 +144,3 @@ afresh-first t ts h = afresh-more t ts (t ∷ ts) at h
 
 pub afresh-insert : (t : Tap) (ts : List Tap) → T (not (among ts t)) → t .prompt < promptCount → afresh (insert fields t ts) ≡ notedAt t (afresh ts)
 afresh-insert t ts n h = afresh-more t ts (insert fields t ts) (one-more t ts n) h
-
-pub length-noted : (t : Tap) (ss : List Standing) → length (notedAt t ss) ≡ length ss
-length-noted t ss = length-set ss (t .prompt) (noted t (getD ss (t .prompt) blank))

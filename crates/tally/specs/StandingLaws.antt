@@ -190,7 +190,7 @@ accept-decline : accept < decline
 unfolding accept decline
 accept-decline = omega arith
 
-standing-few : (ts : List Tap) (p : ℕ) → (standing ts p) .accepts + (standing ts p) .declines ≤ length ts
+pub standing-few : (ts : List Tap) (p : ℕ) → (standing ts p) .accepts + (standing ts p) .declines ≤ length ts
 unfolding standing standingOf howMany ofPrompt
 standing-few ts p =
     omega (arith, keep-all mine, keep-le (λ t. eqb (t .prompt) p) ts, keep-share (of accept) (of decline) (λ t. true) mine (λ t m. bit-apart (of accept t) (of decline t) (λ a c. one-answer t a c)))

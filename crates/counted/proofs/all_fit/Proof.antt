@@ -5,10 +5,11 @@ use mathlib.Core.Path.{_≡_, refl, sym, ap, _∙_}
 use mathlib.Core.List.{map}
 use lib.ListN.{take, drop}
 use borrow.Author.Tests.{not-true, not-false}
+use Rattle.lists.specs.FirstScan.{first-end}
 use Rattle.lists.specs.Tests.{every}
 use Rattle.tally.specs.Tap.{tapOf, tapFits}
 use Rattle.counted.specs.Region.{tapsAt}
-use Rattle.counted.proofs.Turn.{fit-step, first-end}
+use Rattle.counted.proofs.Turn.{fit-step}
 use borrow.Author.Needs.{needs}
 use Rattle.counted.proofs.all_fit.Statement.{statement}
 use Rattle.counted.proofs.all_fit.Tie as tie

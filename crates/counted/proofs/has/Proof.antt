@@ -4,12 +4,13 @@ use native.Mathlib.Omega.{arith}
 use mathlib.Core.Path.{_≡_, sym, _∙_}
 use lib.Dec.{eqb}
 use lib.ListN.{take, drop}
+use Rattle.lists.specs.FirstScan.{first-end}
 use Rattle.lists.specs.Tests.{exists}
 use Rattle.tally.specs.Standing.{among}
 use Rattle.tally.specs.Tap.{tapOf}
 use Rattle.counted.specs.Region.{tapsAt}
 use Rattle.counted.specs.RegionLaws.{among-taps}
-use Rattle.counted.proofs.Turn.{has-here, has-on, first-end}
+use Rattle.counted.proofs.Turn.{has-here, has-on}
 use borrow.Author.Needs.{needs}
 use Rattle.counted.proofs.has.Statement.{statement}
 use Rattle.counted.proofs.has.Tie as tie
