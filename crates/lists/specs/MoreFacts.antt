@@ -2,9 +2,9 @@
 use Prim.Native.Nat.{ℕ, _≤_, _+_, zero, suc, _<_}
 use native.Mathlib.Nat.{add-zero, suc-add, add-suc}
 use native.Mathlib.Omega.{arith}
-use mathlib.Core.Path.{_≡_, subst, refl, ap, sym, _∙_}
+use mathlib.Core.Path.{_≡_, subst, refl, ap, ap₂, sym, _∙_}
 use mathlib.Core.Logic.{_⊎_, _≢_, inl, inr}
-use mathlib.Core.Bool.{not, Bool, true, false, cond, _||_}
+use mathlib.Core.Bool.{not, Bool, true, false, cond, _||_, _&&_}
 use mathlib.Core.List.{List, [], _∷_, map}
 use mathlib.Core.Option.{some, none}
 use lib.Dec.{eqb, T, eqb-refl, eqb→eq}
@@ -40,6 +40,21 @@ every-set p (x ∷ xs) (suc i) v t u = both (p x) (every p (set xs i v)) (and-l 
 pub every-replicate : {A : Type 0} (p : A → Bool) (n : ℕ) (a : A) → T (p a) → T (every p (replicate n a))
 every-replicate p zero a t = tt
 every-replicate p (suc n) a t = both (p a) (every p (replicate n a)) t (every-replicate p n a t)
+
+-- two tests of all are one test of all, and a test may be told in other words
+pub every-and : {A : Type 0} (p q : A → Bool) (xs : List A) → every (λ x. p x && q x) xs ≡ (every p xs && every q xs)
+every-and p q [] = refl
+every-and p q (x ∷ xs) = ap (λ (b : Bool). (p x && q x) && b) (every-and p q xs) ∙ shuffle (p x) (q x) (every p xs) (every q xs)
+  where
+    shuffle : (a b c d : Bool) → ((a && b) && (c && d)) ≡ ((a && c) && (b && d))
+    shuffle true true c d = refl
+    shuffle true false true d = refl
+    shuffle true false false d = refl
+    shuffle false b c d = refl
+
+pub every-same : {A : Type 0} (p q : A → Bool) (xs : List A) → ((x : A) → p x ≡ q x) → every p xs ≡ every q xs
+every-same p q [] f = refl
+every-same p q (x ∷ xs) f = ap₂ _&&_ (f x) (every-same p q xs f)
 
 pub set-either : {A : Type 0} (xs : List A) (i : ℕ) (v : A) (j : ℕ) (d : A) → i < length xs → ((j ≡ i) × (getD (set xs i v) j d ≡ v)) ⊎ (getD (set xs i v) j d ≡ getD xs j d)
 set-either xs i v j d h =

@@ -1,2 +1,4 @@
 pub mod Region
 pub mod RegionLaws
+pub mod Lowest
+pub mod RowSound
