@@ -13,7 +13,7 @@ use lib.Seq.{getD-set-same, getD-set-other}
 use Rattle.lists.specs.Facts.{either, tell, clash, bit, both, and-r, and-l, here, _∈_, there, is-true, is-false, keep-length, mem-keep, none-in, firstOf-some, every-at}
 use Rattle.lists.specs.Order.{insert, keyBefore}
 use Rattle.lists.specs.Sorted.{before-total}
-use Rattle.lists.specs.Tests.{every, numbers, keep, firstOf}
+use Rattle.lists.specs.Tests.{every, allBelow, numbers, keep, firstOf}
 
 pub eq→eqb : (a b : ℕ) → a ≡ b → T (eqb a b)
 eq→eqb a b e = subst (λ (x : ℕ). T (eqb a x)) e (eqb-refl a)
@@ -55,6 +55,10 @@ every-and p q (x ∷ xs) = ap (λ (b : Bool). (p x && q x) && b) (every-and p q 
 pub every-same : {A : Type 0} (p q : A → Bool) (xs : List A) → ((x : A) → p x ≡ q x) → every p xs ≡ every q xs
 every-same p q [] f = refl
 every-same p q (x ∷ xs) f = ap₂ _&&_ (f x) (every-same p q xs f)
+
+pub below-same : (n : ℕ) (p q : ℕ → Bool) → ((k : ℕ) → k < n → p k ≡ q k) → allBelow n p ≡ allBelow n q
+below-same zero p q f = refl
+below-same (suc n) p q f = ap₂ _&&_ (f n (omega arith)) (below-same n p q (λ k h. f k (omega arith)))
 
 pub set-either : {A : Type 0} (xs : List A) (i : ℕ) (v : A) (j : ℕ) (d : A) → i < length xs → ((j ≡ i) × (getD (set xs i v) j d ≡ v)) ⊎ (getD (set xs i v) j d ≡ getD xs j d)
 set-either xs i v j d h =
