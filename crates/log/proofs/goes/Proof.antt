@@ -1,26 +1,23 @@
+-- `log::goes` meets its contract: applied, and known under the lowest stamp. Assumes nothing.
+use mathlib.Core.Path.{sym, _∙_}
+use borrow.Author.Tests.{not-true, not-false}
+use Rattle.ledger.specs.Record.{isKnown, knows}
+use Rattle.log.specs.Lowest.{goesBy}
 use borrow.Author.Needs.{needs}
 use Rattle.log.proofs.goes.Statement.{statement}
 use Rattle.log.proofs.goes.Tie as tie
-use Rattle.log.proofs.goes.Reads as reads
-use Rattle.log.proofs.goes.Lts as lts
-use Rattle.log.proofs.is_applied.Reads as is-applied-reads
-use Rattle.log.proofs.is_known.Reads as is-known-reads
 
--- src/lib.rt:70:9
-is-applied-requires : tie.Need-is-applied-requires
-is-applied-requires c κs = search needs
-
--- src/lib.rt:71:9
 returns : tie.Need-returns
-returns c = search needs
+unfolding goesBy
+returns c =
+    let e = sym (c .before .is-applied .ensures) ∙ not-true _ (c .if1 .taken) in
+    rw e
 
--- src/lib.rt:73:5
-is-known-requires : tie.Need-is-known-requires
-is-known-requires c κs = search needs
-
--- src/lib.rt:65:1
 returns-2 : tie.Need-returns-2
-returns-2 c = search needs
+unfolding goesBy isKnown knows
+returns-2 c =
+    let e = sym (c .before .before .is-applied .ensures) ∙ not-false _ (c .before .if1 .left) in
+    rw e (c .is-known .ensures)
 
 pub goes-spec : {M : Type 1} → statement M
-goes-spec = tie.close (tie.spec is-applied-requires returns is-known-requires returns-2)
+goes-spec = tie.close (tie.spec (λ c κs. search needs) returns (λ c κs. search needs) returns-2)

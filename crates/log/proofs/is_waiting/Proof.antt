@@ -1,26 +1,22 @@
+-- `log::is_waiting` meets its contract: known, and not applied. Assumes nothing.
+use mathlib.Core.Path.{sym, _∙_}
+use borrow.Author.Tests.{not-true, not-false}
+use Rattle.ledger.specs.Record.{isWaiting}
 use borrow.Author.Needs.{needs}
 use Rattle.log.proofs.is_waiting.Statement.{statement}
 use Rattle.log.proofs.is_waiting.Tie as tie
-use Rattle.log.proofs.is_waiting.Reads as reads
-use Rattle.log.proofs.is_waiting.Lts as lts
-use Rattle.log.proofs.is_applied.Reads as is-applied-reads
-use Rattle.log.proofs.is_known.Reads as is-known-reads
 
--- src/lib.rt:58:9
-is-known-requires : tie.Need-is-known-requires
-is-known-requires c κs = search needs
-
--- src/lib.rt:59:9
 returns : tie.Need-returns
-returns c = search needs
+unfolding isWaiting
+returns c =
+    let e = sym (c .before .is-known .ensures) ∙ not-true _ (c .if1 .taken) in
+    rw e
 
--- src/lib.rt:61:6
-is-applied-requires : tie.Need-is-applied-requires
-is-applied-requires c κs = search needs
-
--- src/lib.rt:53:1
 returns-2 : tie.Need-returns-2
-returns-2 c = search needs
+unfolding isWaiting
+returns-2 c =
+    let e = sym (c .before .before .is-known .ensures) ∙ not-false _ (c .before .if1 .left) in
+    rw (e, c .is-applied .ensures)
 
 pub is-waiting-spec : {M : Type 1} → statement M
-is-waiting-spec = tie.close (tie.spec is-known-requires returns is-applied-requires returns-2)
+is-waiting-spec = tie.close (tie.spec (λ c κs. search needs) returns (λ c κs. search needs) returns-2)

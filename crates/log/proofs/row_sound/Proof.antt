@@ -1,64 +1,79 @@
+-- `log::row_sound` meets its contract: the four clauses, in their order. Assumes nothing.
+use mathlib.Core.Path.{_≡_, sym, subst, _∙_}
+use mathlib.Core.Bool.{true, false}
+use lib.Dec.{T}
+use borrow.Author.Tests.{not-true, not-false}
+use Rattle.ledger.specs.Record.{isKnown, recordFits}
+use Rattle.ledger.specs.RecordLaws.{obeys}
+use Rattle.log.specs.Region.{recordAt}
+use Rattle.log.specs.Lowest.{goesBy}
+use Rattle.log.specs.RowSound.{rowSound, stamp-covered}
 use borrow.Author.Needs.{needs}
 use Rattle.log.proofs.row_sound.Statement.{statement}
 use Rattle.log.proofs.row_sound.Tie as tie
-use Rattle.log.proofs.row_sound.Reads as reads
-use Rattle.log.proofs.row_sound.Lts as lts
-use Rattle.log.proofs.goes.Reads as goes-reads
-use Rattle.log.proofs.is_applied.Reads as is-applied-reads
-use Rattle.log.proofs.is_known.Reads as is-known-reads
-use Rattle.log.proofs.row_fits.Reads as row-fits-reads
 
--- src/lib.rt:99:9
-is-known-requires : tie.Need-is-known-requires
-is-known-requires c κs = search needs
+known : (c : tie.Else1) → isKnown (c .before .before .before .before .before .before .args .known .now) (recordAt (c .before .before .before .before .before .before .args .row .now)) ≡ true
+known c = sym (c .before .is-known .ensures) ∙ not-false _ (c .if1 .left)
 
--- src/lib.rt:100:9
+fitting : (c : tie.Else2) → recordFits (λ _. true) (c .before .before .before .before .before .before .before .before .args .n) (recordAt (c .before .before .before .before .before .before .before .before .args .row .now)) ≡ true
+fitting c = sym (c .before .row-fits .ensures) ∙ not-false _ (c .if2 .left)
+
+staying :
+    (c : tie.Else3)
+    → (let s = c .before .before .before .before .before .before .before .before .before .before .args in goesBy (s .known .now) (s .low .now) (recordAt (s .row .now)) ≡ false)
+staying c = sym (c .before .goes .ensures) ∙ c .if3 .left
+
 returns : tie.Need-returns
-returns c = search needs
+unfolding rowSound
+returns c =
+    let e = sym (c .before .is-known .ensures) ∙ not-true _ (c .if1 .taken) in
+    rw e
 
--- src/lib.rt:102:9
-row-fits-requires : tie.Need-row-fits-requires
-row-fits-requires c κs = search needs
-
--- src/lib.rt:103:9
 returns-2 : tie.Need-returns-2
-returns-2 c = search needs
+unfolding rowSound
+returns-2 c =
+    let e = known (c .before .before) in
+    let f = sym (c .before .row-fits .ensures) ∙ not-true _ (c .if2 .taken) in
+    rw (e, f)
 
--- src/lib.rt:105:8
-goes-requires : tie.Need-goes-requires
-goes-requires c κs = search needs
-
--- src/lib.rt:106:9
 returns-3 : tie.Need-returns-3
-returns-3 c = search needs
+unfolding rowSound
+returns-3 c =
+    let e = known (c .before .before .before .before) in
+    let f = fitting (c .before .before) in
+    let g = sym (c .before .goes .ensures) ∙ c .if3 .taken in
+    rw (e, f, g)
 
--- src/lib.rt:108:9
-is-applied-requires : tie.Need-is-applied-requires
-is-applied-requires c κs = search needs
-
--- src/lib.rt:109:9
 returns-4 : tie.Need-returns-4
-returns-4 c = search needs
+unfolding rowSound
+returns-4 c =
+    let e = known (c .before .before .before .before .before .before) in
+    let f = fitting (c .before .before .before .before) in
+    let g = staying (c .before .before) in
+    let a = sym (c .before .is-applied .ensures) ∙ not-true _ (c .if4 .taken) in
+    rw (e, f, g, a)
 
--- src/lib.rt:111:5
-is-applied-requires-2 : tie.Need-is-applied-requires-2
-is-applied-requires-2 c κs = search needs
-
--- src/lib.rt:94:1
 returns-5 : tie.Need-returns-5
-returns-5 c = search needs
+unfolding rowSound
+returns-5 c =
+    let t = c .before .before .before in
+    let u = t .before .before in
+    let s = u .before .before .before .before .before .before .before .before .args in
+    let o = obeys (λ _. true) (s .n) (recordAt (s .row .now)) (subst T (sym (fitting u)) tt) in
+    let a = sym (c .before .before .is-applied .ensures) ∙ not-false _ (c .before .if4 .left) in
+    rw (known (u .before .before), fitting u, staying t, a, stamp-covered (s .value .now) (recordAt (s .row .now)) (o .label-lt)) (c .is-applied2 .ensures)
 
 pub row-sound-spec : {M : Type 1} → statement M
 row-sound-spec =
     tie.close
     (tie.spec
-    is-known-requires
+    (λ c κs. search needs)
     returns
-    row-fits-requires
+    (λ c κs. search needs)
     returns-2
-    goes-requires
+    (λ c κs. search needs)
     returns-3
-    is-applied-requires
+    (λ c κs. search needs)
     returns-4
-    is-applied-requires-2
+    (λ c κs. search needs)
     returns-5)
