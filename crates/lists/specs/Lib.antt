@@ -8,3 +8,4 @@ pub mod Rows
 pub mod EveryScan
 pub mod MoreFacts
 pub mod RowLaws
+pub mod Neighbours
