@@ -3,25 +3,27 @@ use Prim.Native.Nat.{ℕ, suc, _+_, _-_, _≤_, _<_, min}
 use native.Mathlib.Omega.{arith}
 use native.Mathlib.Nat.{sub-zero}
 use mathlib.Core.Path.{_≡_, refl, sym, ap, ap₂, _∙_}
-use mathlib.Core.Bool.{Bool, true, false, _&&_}
+use mathlib.Core.Bool.{Bool, true, false, _&&_, and-false, or-false}
 use mathlib.Core.List.{List, [], _∷_, _++_, append-nil}
-use lib.Dec.{leb, eqb}
+use lib.Dec.{T, leb, ltb}
 use lib.ListN.{length, take, drop, getD, set, drop-of-length-le}
 use lib.Seq.{take-all, drop-drop}
-use borrow.Author.Tests.{eq-eqb, ne-eqb}
+use borrow.Author.Tests.{le-ltb, eq-eqb, ne-eqb}
 use Rattle.lists.specs.Scan.{rest, stored-more, le-or-lt}
 use Rattle.lists.specs.Rows.{rows}
 use Rattle.lists.specs.Order.{keyBefore, rising}
 use Rattle.lists.specs.Neighbours.{rising-next}
 use Rattle.lists.specs.Tests.{allBelow, every}
 use Rattle.lists.specs.Facts.{bit, either, keep-length}
-use Rattle.stamp.specs.Stamp.{Stamp}
+use Rattle.stamp.specs.Stamp.{Stamp, part}
+use Rattle.stamp.specs.Parts.{partsAt, listOf}
+use Rattle.stamp.specs.PartsLaws.{list-parts}
 use Rattle.ledger.specs.Log.{waitingIn}
 use Rattle.ledger.specs.Record.{Record, place, isWaiting}
 use Rattle.log.specs.Region.{rowLong}
 use Rattle.log.specs.Lowest.{meet, lowestFrom}
 use Rattle.log.specs.Walk.{recordsFrom, recordFrom, lentAt, record-lent, records-next, records-none}
-use Rattle.log.specs.Held.{climbed, climb}
+use Rattle.log.specs.Held.{holdsAll, climbed, climb, climb-holds}
 use Rattle.log.specs.First.{firstWith}
 
 module _ (a b : Stamp) (i : ℕ) (ha : i < length a) (hb : i < length b) where
@@ -126,6 +128,10 @@ module _ (n : ℕ) (r : List ℕ) (i at : ℕ) (h : i + 1 < n) where
   pub rising-off : keyBefore (place (lentAt r at)) (place (lentAt r (at + rowLong))) ≡ false → rising place (recordsFrom n r i at) ≡ false
   rising-off e = rising-pair ∙ ap (λ (b : Bool). b && rising place (recordsFrom n r (i + 1) (at + rowLong))) e
 
+-- two rows of one origin stand as their numbers do
+pub before-number : (o o′ q q′ : ℕ) → o′ ≤ o → o ≡ o′ → ltb q q′ ≡ keyBefore (o ∷ q ∷ []) (o′ ∷ q′ ∷ [])
+before-number o o′ q q′ h e = simp (le-ltb o o′ h, eq-eqb o o′ e, and-false, or-false)
+
 -- one row or none rises
 pub rising-end : (n : ℕ) (r : List ℕ) (i at : ℕ) → n ≤ i + 1 → rising place (recordsFrom n r i at) ≡ true
 rising-end n r i at h =
@@ -137,3 +143,11 @@ pub below-last : (p : ℕ → Bool) (k : ℕ) → 0 < k → allBelow k p ≡ (p 
 below-last p k h =
     let e : k ≡ suc (k - 1) = omega arith in
     ap (λ (j : ℕ). allBelow j p) e
+
+-- the climb from a copy of the start
+pub held-climb :
+    (n : ℕ) (start end reached : Stamp) (rs : List Record) → T (rising place rs) → (length start ≡ 8) × (n ≤ 8) → reached ≡ climb (listOf (partsAt 0 start)) rs
+    → allBelow n (λ k. leb (part end k) (part reached k)) ≡ holdsAll n start end rs
+held-climb n start end reached rs o h e =
+    let copy : listOf (partsAt 0 start) ≡ start = list-parts 0 start (omega arith) ∙ take-all 8 start (omega arith) in
+    rw (e, copy) (sym (climb-holds n start end rs o (omega arith)))

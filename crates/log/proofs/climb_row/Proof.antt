@@ -49,7 +49,7 @@ same-length c = search needs
 
 -- src/lib.rt:226:1
 returns-2 : tie.Need-returns-2
-returns-2 c = (rw (c .raise .ensures), length-set _ _ _)
+returns-2 c = (rw (c .raise .ensures), simp length-set)
 
 pub climb-row-spec : {M : Type 1} → statement M
 climb-row-spec =

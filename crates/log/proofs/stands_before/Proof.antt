@@ -1,6 +1,7 @@
 -- `log::stands_before` meets its contract. Assumes nothing.
 use mathlib.Core.Path.{_≡_, refl, sym, ap, _∙_}
-use mathlib.Core.Bool.{and-false, or-false}
+use Rattle.log.proofs.Turn.{before-number}
+use lib.ListN.{getD}
 use borrow.Author.Tests.{not-true, not-false, le-ltb, lt-ltb, lt-leb, le-leb, eq-eqb, ne-eqb}
 use borrow.Author.Needs.{needs}
 use Rattle.log.proofs.stands_before.Statement.{statement}
@@ -44,7 +45,8 @@ shared-slice-read-result-2 c = search needs
 returns-3 : tie.Need-returns-3
 returns-3 c =
     let t = c .before .before in
-    simp (le-ltb _ _ (t .before .before .before .if1 .left), eq-eqb _ _ (t .if2 .left), and-false, or-false)
+    let s = t .before .before .before .before .before .before .args in
+    before-number _ _ (getD (s .a .now) 1 0) (getD (s .b .now) 1 0) (t .before .before .before .if1 .left) (t .if2 .left)
 
 pub stands-before-spec : {M : Type 1} → statement M
 stands-before-spec =
