@@ -137,7 +137,7 @@ gapless-from n s m f =
     (λ q l. either (tell (ltb q (part s k))) (λ u. or-l (ltb q (part s k)) (has (m .records) k (suc q)) u) (λ u. or-r (ltb q (part s k)) (has (m .records) k (suc q)) (f k q h (nltb→le q (part s k) u) l))))
 
 -- places in order
-place-after : (x r : Record) → T (keyBefore (place x) (place r)) → r .origin ≡ x .origin → x .number < r .number
+pub place-after : (x r : Record) → T (keyBefore (place x) (place r)) → r .origin ≡ x .origin → x .number < r .number
 place-after x r t e =
     either (or-cases (ltb (x .origin) (r .origin)) (eqb (x .origin) (r .origin) && (ltb (x .number) (r .number) || eqb (x .number) (r .number) && false)) t)
     (λ h. absurd (omega (arith, ltb→lt (x .origin) (r .origin) h)))
