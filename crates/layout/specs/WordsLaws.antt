@@ -11,7 +11,7 @@ use lib.Seq.{drop-at}
 use Rattle.lists.specs.Facts.{all-at, all-from, _also_, done}
 use Rattle.lists.specs.MoreFacts.{eq→eqb, every-replicate}
 use Rattle.lists.specs.Part.{mid, length-mid}
-use Rattle.lists.specs.Pieces.{sumOf, all-parts, piece-ends, piece-at}
+use Rattle.lists.specs.Pieces.{sumOf, flat-long, all-parts, piece-ends, piece-at}
 use Rattle.lists.specs.Scan.{rest}
 use Rattle.lists.specs.RowLaws.{Wide, length-rows, length-flat, flat-rows, rows-flat}
 use Rattle.lists.specs.Rows.{rows, flat}
@@ -125,12 +125,7 @@ table-back rs n w e = rw (← e) (rows-flat parts rs (replicate ((most - length 
 records-back : (room : ℕ) (rs : List Record) → T (every eightParts rs) → recordsAt (length rs) (logWords room rs) ≡ rs
 records-back room rs h = ap (recordsAt (length rs)) (sym (append-nil (logWords room rs))) ∙ records-words room rs [] h
 
--- the words of a book are as long as its pieces, and a piece is zero behind what it holds
-flat-long : (cs : List (List ℕ)) → length (flat cs) ≡ sumOf (map length cs)
-unfolding flat
-flat-long [] = refl
-flat-long (c ∷ cs) = length-append c (flat cs) ∙ ap (λ (k : ℕ). length c + k) (flat-long cs)
-
+-- a piece is zero behind what it holds
 zeros-behind : (l : List ℕ) (n k : ℕ) → length l ≡ n → T (zeroFrom n (l ++ replicate k 0))
 zeros-behind l n k e = subst (λ (r : List ℕ). T (every (λ x. eqb x 0) r)) (sym (drop-at l (replicate k 0) n e)) (every-replicate (λ x. eqb x 0) k 0 tt)
 

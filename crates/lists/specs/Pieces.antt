@@ -5,7 +5,7 @@ use native.Mathlib.Nat.{zero-add}
 use native.Mathlib.Omega.{arith}
 use mathlib.Core.Path.{_≡_, refl, sym, ap, ap₂, _∙_}
 use mathlib.Core.List.{List, [], _∷_, _++_, map, append-assoc}
-use lib.ListN.{length, take, drop, getD, set, length-drop, length-map, take-append-drop, drop-of-length-le}
+use lib.ListN.{length, length-append, take, drop, getD, set, length-drop, length-map, take-append-drop, drop-of-length-le}
 use lib.Seq.{drop-at, drop-drop, take-append-seam, take-append-add, drop-append-add}
 use Rattle.lists.specs.Part.{mid, patch}
 use Rattle.lists.specs.Rows.{flat}
@@ -19,6 +19,12 @@ sumOf (n ∷ ns) = n + sumOf ns
 unfoldable cut : List ℕ → List ℕ → List (List ℕ)
 cut [] l = []
 cut (n ∷ ns) l = take n l ∷ cut ns (drop n l)
+
+-- pieces one after the other are as long as they are together
+pub flat-long : (cs : List (List ℕ)) → length (flat cs) ≡ sumOf (map length cs)
+unfolding flat
+flat-long [] = refl
+flat-long (c ∷ cs) = length-append c (flat cs) ∙ ap (λ (k : ℕ). length c + k) (flat-long cs)
 
 -- the parts of these lengths, from a place on
 abbrev pub parted : ℕ → List ℕ → List ℕ → List (List ℕ)

@@ -26,8 +26,11 @@ const ROW: usize = 11;
 
 // Where the words of a row stand; the label is from LABEL to BODY.
 const ORIGIN: usize = 0;
+
 const NUMBER: usize = 1;
+
 const LABEL: usize = 2;
+
 const BODY: usize = 10;
 
 // A stamp's parts.
@@ -158,7 +161,14 @@ pub fn lowest(table: &[u64], n: usize, low: &mut [u64])
 }
 
 // What soundness asks of each record alone.
-pub fn rows_sound(r: &[u64], count: usize, n: usize, known: &[u64], low: &[u64], value: &[u64]) -> bool
+pub fn rows_sound(
+    r: &[u64],
+    count: usize,
+    n: usize,
+    known: &[u64],
+    low: &[u64],
+    value: &[u64],
+) -> bool
     requires { ⌜ count * rowLong ≤ length (now r) ⌝ }
     requires { ⌜ (length (now known) ≡ 8) × (length (now value) ≡ 8) ⌝ }
     ensures { λ b. ⌜ b ≡ every (rowSound n (now (known .entry)) (now (low .entry)) (now (value .entry))) (recordsAt count (now (r .entry))) ⌝ }
