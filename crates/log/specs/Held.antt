@@ -5,11 +5,11 @@
 --     gapless-climb   a message has no gap
 use Prim.Native.Nat.{ℕ, suc, _≤_, _<_}
 use native.Mathlib.Omega.{arith}
-use mathlib.Core.Path.{_≡_, refl, sym, ap, subst, _∙_}
+use mathlib.Core.Path.{_≡_, refl, sym, ap, _∙_}
 use mathlib.Core.Logic.{_⊎_, _≢_, inl, inr}
-use mathlib.Core.Bool.{Bool, true, false, _&&_, _||_, cond, or-comm}
+use mathlib.Core.Bool.{Bool, _&&_, _||_, cond, or-comm}
 use mathlib.Core.List.{List, [], _∷_, List·Memᴰ·cases-cons}
-use lib.Dec.{T, leb, ltb, eqb, leb→le, le→leb, eqb→eq}
+use lib.Dec.{T, leb, ltb, eqb, leb→le, le→leb}
 use lib.ListN.{length, set, length-set}
 use lib.Seq.{getD-set-same, getD-set-other}
 use borrow.Author.Tests.{eq-eqb, ne-eqb}
