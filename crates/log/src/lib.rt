@@ -15,7 +15,7 @@ ghost use Rattle.lists.specs.Rows.{rows};
 ghost use Rattle.lists.specs.Tests.{allBelow, every};
 ghost use Rattle.stamp.specs.Stamp.{part};
 ghost use Rattle.ledger.specs.Log.{waitingIn};
-ghost use Rattle.ledger.specs.Record.{Record, place, isKnown, isApplied, isWaiting, recordFits};
+ghost use Rattle.ledger.specs.Record.{place, isKnown, isApplied, isWaiting, recordFits};
 ghost use Rattle.log.specs.Region.{rowLong, stampLong, recordAt, recordsAt};
 ghost use Rattle.log.specs.Lowest.{meet, lowestFrom, goesBy};
 ghost use Rattle.log.specs.RowSound.{rowSound};
@@ -23,16 +23,16 @@ ghost use Rattle.log.specs.Held.{raised, climbed, climb, holdsAll};
 ghost use Rattle.log.specs.First.{firstWith};
 
 // A row's words.
-const ROW: usize = 11;
+pub const ROW: usize = 11;
 
 // Where the words of a row stand; the label is from LABEL to BODY.
-const ORIGIN: usize = 0;
+pub const ORIGIN: usize = 0;
 
-const NUMBER: usize = 1;
+pub const NUMBER: usize = 1;
 
-const LABEL: usize = 2;
+pub const LABEL: usize = 2;
 
-const BODY: usize = 10;
+pub const BODY: usize = 10;
 
 // A part that a stamp does not have is zero.
 pub fn part_at(s: &[u64], k: u64) -> u64
