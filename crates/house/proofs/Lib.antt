@@ -1,2 +1,4 @@
 pub mod Invariant
 pub mod Runs
+pub mod Numbers
+pub mod Demand
