@@ -2,3 +2,4 @@ pub mod Invariant
 pub mod Runs
 pub mod Numbers
 pub mod Demand
+pub mod Consent

@@ -232,25 +232,28 @@ highest-over : (ts : List Tap) {t : Tap} → t ∈ ts → t .showing ≤ highest
 highest-over [] m = none-in m
 highest-over (u ∷ us) m = either (List·Memᴰ·cases-cons m) (λ e. omega (arith, ap (λ (x : Tap). x .showing) e)) (λ n. omega (arith, highest-over us n))
 
-of-prompt : (ts : List Tap) (t : Tap) → t ∈ ts → t ∈ ofPrompt (t .prompt) ts
+of-prompt : (ts : List Tap) (p : ℕ) (t : Tap) → t ∈ ts → t .prompt ≡ p → t ∈ ofPrompt p ts
 unfolding ofPrompt
-of-prompt ts t m = mem-keep (λ u. eqb (u .prompt) (t .prompt)) ts m (eqb-refl (t .prompt))
+of-prompt ts p t m e = mem-keep (λ u. eqb (u .prompt) p) ts m (eq→eqb (t .prompt) p e)
 
-pub standing-over : (ts : List Tap) (t : Tap) → t ∈ ts → t .showing ≤ (standing ts (t .prompt)) .showing
+pub standing-showing : (ts : List Tap) (p : ℕ) → (standing ts p) .showing ≡ highest (ofPrompt p ts)
 unfolding standing standingOf
-standing-over ts t m = highest-over (ofPrompt (t .prompt) ts) (of-prompt ts t m)
+standing-showing ts p = refl
+
+pub standing-over : (ts : List Tap) (p : ℕ) (t : Tap) → t ∈ ts → t .prompt ≡ p → t .showing ≤ (standing ts p) .showing
+standing-over ts p t m e = omega (arith, highest-over (ofPrompt p ts) (of-prompt ts p t m e), standing-showing ts p)
 
 some-of : (s a : ℕ) (ts : List Tap) (t : Tap) → t ∈ ts → t .showing ≡ s → t .answer ≡ a → 0 < howMany s a ts
 unfolding howMany
 some-of s a ts t m e f = keep-some (λ u. eqb (u .showing) s && eqb (u .answer) a) ts m (both (eqb (t .showing) s) (eqb (t .answer) a) (eq→eqb (t .showing) s e) (eq→eqb (t .answer) a f))
 
-pub accept-counted : (ts : List Tap) (t : Tap) → t ∈ ts → t .showing ≡ (standing ts (t .prompt)) .showing → t .answer ≡ accept → 0 < (standing ts (t .prompt)) .accepts
+pub accept-counted : (ts : List Tap) (p : ℕ) (t : Tap) → t ∈ ts → t .prompt ≡ p → t .showing ≡ (standing ts p) .showing → t .answer ≡ accept → 0 < (standing ts p) .accepts
 unfolding standing standingOf
-accept-counted ts t m e f = some-of (highest (ofPrompt (t .prompt) ts)) accept (ofPrompt (t .prompt) ts) t (of-prompt ts t m) e f
+accept-counted ts p t m e f g = some-of (highest (ofPrompt p ts)) accept (ofPrompt p ts) t (of-prompt ts p t m e) f g
 
-pub decline-counted : (ts : List Tap) (t : Tap) → t ∈ ts → t .showing ≡ (standing ts (t .prompt)) .showing → t .answer ≡ decline → 0 < (standing ts (t .prompt)) .declines
+pub decline-counted : (ts : List Tap) (p : ℕ) (t : Tap) → t ∈ ts → t .prompt ≡ p → t .showing ≡ (standing ts p) .showing → t .answer ≡ decline → 0 < (standing ts p) .declines
 unfolding standing standingOf
-decline-counted ts t m e f = some-of (highest (ofPrompt (t .prompt) ts)) decline (ofPrompt (t .prompt) ts) t (of-prompt ts t m) e f
+decline-counted ts p t m e f g = some-of (highest (ofPrompt p ts)) decline (ofPrompt p ts) t (of-prompt ts p t m e) f g
 
 -- accepts and declines mean Contested, declines alone Declined; so Accepted means no declines
 pub both-contested : (s : Standing) → 0 < s .accepts → 0 < s .declines → verdictOf s ≡ contested
