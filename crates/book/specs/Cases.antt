@@ -1,16 +1,16 @@
--- Taps on the practice car: document 01's starred cases A to L, one table and one claim. Assumes nothing.
+-- Taps on the practice car: document 01's starred cases A to L as one table, and the order of refusals as another; one claim. Assumes nothing.
 use Prim.Native.Nat.{ℕ}
 use mathlib.Core.Path.{_≡_, refl}
-use mathlib.Core.Bool.{Bool, true}
-use mathlib.Core.List.{_∷_, [], List, map, flatMap}
-use Rattle.lists.specs.Order.{sameKey}
-use Rattle.lists.specs.Tests.{every}
+use mathlib.Core.Bool.{true}
+use mathlib.Core.List.{List, _∷_, [], flatMap}
+use Rattle.lists.specs.Table.{agrees}
 use Rattle.stamp.specs.Limits.{word, parts}
 use Rattle.stamp.specs.Stamp.{Stamp, zeros, stampFits}
 use Rattle.tally.specs.Limits.{frontEnds, serials, promptCount, showings, accept, decline}
 use Rattle.tally.specs.Standing.{among, countAll, ofPrompt, howMany, standing, standingOf, afresh, unasked, accepted, declined, contested, verdictOf}
 use Rattle.tally.specs.Tap.{wordOf, sameTap, tapFits, bodyFits}
 use Rattle.tally.specs.declared.Tap.{Tap}
+use Rattle.ledger.specs.Cases.{at, numbersOf}
 use Rattle.ledger.specs.Limits.{fewest, most, logRoom, bookRoom}
 use Rattle.ledger.specs.Log.{unknowns, gathered, newlyApplied, remaining, waitingIn, allHeld, gapless}
 use Rattle.ledger.specs.Message.{Message, inRange, messageFits}
@@ -19,22 +19,16 @@ use Rattle.book.specs.Book.{fresh, waiting, known, row, standingAt, hold
 use Rattle.book.specs.Reply.{figures}
 use Rattle.book.specs.Step.{send, Outcome, tapStep, gossipStep, ask, nowApplied, tapsOf, nowCounted, settle, newRecord, tapRows, tapStops, askStops, answerOf, newOnes, gossipRows, gossipStops}
 
-at : ℕ → ℕ → ℕ → Stamp
-at a b c = a ∷ b ∷ c ∷ 0 ∷ 0 ∷ 0 ∷ 0 ∷ 0 ∷ []
-
 -- front end, serial, prompt, showing, answer
 tapped : ℕ → ℕ → ℕ → ℕ → ℕ → Tap
 tapped f s p h a = record { front = f; serial = s; prompt = p; showing = h; answer = a }
 
--- a message from 0 of 3
-from0 : Stamp → List Record → Message
-from0 s rs = record { sender = 0; screens = 3; stamp = s; records = rs }
+-- sender, N, stamp, records
+message : ℕ → ℕ → Stamp → List Record → Message
+message j n s rs = record { sender = j; screens = n; stamp = s; records = rs }
 
 says : Outcome → List ℕ
 says o = figures (o .reply)
-
-numbersOf : List Record → List ℕ
-numbersOf rs = map (λ r. r .number) rs
 
 A : Outcome
 A = tapStep (fresh 0 3) (tapped 5 1 7 1 1) (at 0 0 0)
@@ -52,8 +46,8 @@ H : Outcome
 H = gossipStep (G .book) (send (B .book))
 
 -- what the definitions give, beside what the document says
-table : List (List ℕ × List ℕ)
-table =
+pub starred : List (List ℕ × List ℕ)
+starred =
     -- A. Taken (1,0,0). Question 7 at (1,0,0): Accepted, showing 1, 1 and 0
     (says A, 5 ∷ at 1 0 0)
     ∷ (says (ask (A .book) 7 (at 1 0 0)), 7 ∷ 1 ∷ 1 ∷ 1 ∷ 0 ∷ at 1 0 0)
@@ -82,18 +76,34 @@ table =
     ∷ (says (tapStep (B .book) (tapped 5 3 7 1 1) (at 3 0 0)), 9 ∷ 3 ∷ [])
     ∷ (says (tapStep (B .book) (tapped 5 3 7 1 1) (at 2 0 0)), 5 ∷ at 3 0 0)
     -- J. Fresh 1, from 0, stamp (2,0,0), only record 2 of 0: 8
-    ∷ (says (gossipStep (fresh 1 3) (from0 (at 2 0 0) (record { origin = 0; number = 2; label = at 0 0 0; body = wordOf (tapped 5 2 7 1 2) } ∷ []))), 9 ∷ 8 ∷ [])
+    ∷ (says (gossipStep (fresh 1 3) (message 0 3 (at 2 0 0) (record { origin = 0; number = 2; label = at 0 0 0; body = wordOf (tapped 5 2 7 1 2) } ∷ []))), 9 ∷ 8 ∷ [])
     -- K. Fresh 1, from 0, stamp (0,1,0): 6
-    ∷ (says (gossipStep (fresh 1 3) (from0 (at 0 1 0) [])), 9 ∷ 6 ∷ [])
+    ∷ (says (gossipStep (fresh 1 3) (message 0 3 (at 0 1 0) [])), 9 ∷ 6 ∷ [])
     -- L. After H on 2, from 0, stamp (1,1,0): 5
-    ∷ (says (gossipStep (H .book) (from0 (at 1 1 0) [])), 9 ∷ 5 ∷ [])
+    ∷ (says (gossipStep (H .book) (message 0 3 (at 1 1 0) [])), 9 ∷ 5 ∷ [])
     ∷ []
 
--- every line agrees
-unfoldable pub practised : Bool
-unfolding at tapped from0 says numbersOf A B E G H table
-practised = every (λ l. sameKey (l .0) (l .1)) table
+-- where two stops hold, the reply is that of the earlier
+pub ordered : List (List ℕ × List ℕ)
+ordered =
+    -- tap: 11 before 1, 1 before 3, 3 before Already
+    (says (tapStep (fresh 3 3) (tapped 5 1 7 1 0) (at 0 0 0)), 9 ∷ 11 ∷ [])
+    ∷ (says (tapStep (B .book) (tapped 5 1 7 1 0) (at 3 0 0)), 9 ∷ 1 ∷ [])
+    ∷ (says (tapStep (B .book) (tapped 5 1 7 1 1) (at 3 0 0)), 9 ∷ 3 ∷ [])
+    -- question: 11 before 1, 1 before 3, 3 before Wait
+    ∷ (says (ask (fresh 3 3) 64 (at 0 0 0)), 9 ∷ 11 ∷ [])
+    ∷ (says (ask (B .book) 64 (at 3 0 0)), 9 ∷ 1 ∷ [])
+    ∷ (says (ask (B .book) 7 (at 3 0 0)), 9 ∷ 3 ∷ [])
+    -- gossip: 11 before 1, 1 before 2, 2 before 4, 5 before 6, 6 before 7, 7 before 8
+    ∷ (says (gossipStep (fresh 3 3) (message 4 4 (at 0 0 0) [])), 9 ∷ 11 ∷ [])
+    ∷ (says (gossipStep (B .book) (message 4 4 (at 0 0 0) [])), 9 ∷ 1 ∷ [])
+    ∷ (says (gossipStep (B .book) (message 0 3 (at 1 0 0) [])), 9 ∷ 2 ∷ [])
+    ∷ (says (gossipStep (E .book) (message 0 3 (at 0 1 0) [])), 9 ∷ 5 ∷ [])
+    ∷ (says (gossipStep (E .book) (message 0 3 (at 2 2_000 0) [])), 9 ∷ 6 ∷ [])
+    ∷ (says (gossipStep (E .book) (message 0 3 (at 2_000 0 0) [])), 9 ∷ 7 ∷ [])
+    ∷ []
 
-pub practice : practised ≡ true
-unfolding practised at tapped from0 says numbersOf A B E G H table parts word zeros stampFits frontEnds serials promptCount showings accept decline sameTap tapFits bodyFits among countAll ofPrompt howMany standingOf standing afresh unasked accepted declined contested verdictOf fewest most logRoom bookRoom inRange messageFits stampOf knows isKnown isApplied isWaiting everywhere mayGo has recordFits unknowns gathered newlyApplied remaining waitingIn allHeld gapless row known standingAt waiting fresh holds countedIn clauses sound figures nowApplied tapsOf nowCounted settle newRecord tapRows tapStops tapStep askStops answerOf ask send newOnes gossipRows gossipStops gossipStep flatMap
-practice = refl
+-- the definitions give each line
+pub practice : (agrees starred ≡ true) × (agrees ordered ≡ true)
+unfolding tapped message says A B E G H starred ordered parts word zeros stampFits frontEnds serials promptCount showings accept decline sameTap tapFits bodyFits among countAll ofPrompt howMany standingOf standing afresh unasked accepted declined contested verdictOf fewest most logRoom bookRoom inRange messageFits stampOf knows isKnown isApplied isWaiting everywhere mayGo has recordFits unknowns gathered newlyApplied remaining waitingIn allHeld gapless row known standingAt waiting fresh holds countedIn clauses sound figures nowApplied tapsOf nowCounted settle newRecord tapRows tapStops tapStep askStops answerOf ask send newOnes gossipRows gossipStops gossipStep flatMap
+practice = (refl, refl)

@@ -2,7 +2,6 @@ pub mod Book
 pub mod Reply
 pub mod Step
 pub mod Cases
-pub mod Order
 pub mod Soundness
 pub mod Settle
 pub mod Steps

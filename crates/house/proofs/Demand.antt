@@ -94,7 +94,7 @@ module _ (n : ℕ) (h : House) (v : Inv n h) (i : ℕ) (u : i < n) where
   pub fresh-counts : (p : ℕ) → p < promptCount → standingAt (h .book i) p ≡ standing (appliedTaps (known (h .book i)) (h .history)) p
   fresh-counts p l = standing-at b (ok .book-sound) p l ∙ ap (λ (ts : List Tap). standing ts p) counted-distinct
 
-  value-merged : b .value ≡ mergeAll (appliedOf (known b) (h .history)) zeros
+  pub value-merged : (h .book i) .value ≡ mergeAll (appliedOf (known (h .book i)) (h .history)) zeros
   value-merged =
       covers-both (b .value) (mergeAll (appliedOf (known b) (h .history)) zeros) (fits (b .screens) (b .value) (ok .book-sound .value-fits) .long ∙ sym merged-long)
       (ok .value-under (mergeAll (appliedOf (known b) (h .history)) zeros) (λ r m a. mergeAll-over (appliedOf (known b) (h .history)) zeros (mem-applied (known b) (h .history) r m a)))

@@ -3,3 +3,4 @@ pub mod Runs
 pub mod Numbers
 pub mod Demand
 pub mod Consent
+pub mod Agree

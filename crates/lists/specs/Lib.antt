@@ -1,5 +1,6 @@
 pub mod Tests
 pub mod Order
+pub mod Table
 pub mod Facts
 pub mod Sorted
 pub mod Scan
