@@ -18,11 +18,12 @@ use Rattle.tally.specs.StandingLaws.{count-put, count-has, afresh-few}
 use Rattle.tally.specs.Tap.{tapsIn, bodyFits, fields}
 use Rattle.tally.specs.TapLaws.{taps-one, taps-body}
 use Rattle.tally.specs.declared.Tap.{Tap}
+use Rattle.ledger.specs.LimitLaws.{range-parts, room-word}
 use Rattle.ledger.specs.Limits.{logRoom, bookRoom}
 use Rattle.ledger.specs.Log.{gathered, remaining, waitingIn, mergeAll}
 use Rattle.ledger.specs.LogLaws.{put-log, same-place, newly-mem, mem-newly, remaining-mem, remains-or-goes, few-newly, raise-total, mergeAll-base, mergeAll-over, mergeAll-under, mergeAll-fits, remaining-rising, remaining-le}
 use Rattle.ledger.specs.Record.{Record, place, recordFits, has, isApplied, mayGo, everywhere, stampOf}
-use Rattle.ledger.specs.RecordLaws.{obeys, applied-known, everywhere-from, everywhere-at, go-from, applied-mono, go-applied, go-everywhere, has-at, has-from, Obeys, stamp-fits, range-parts, room-word, stamp-under}
+use Rattle.ledger.specs.RecordLaws.{obeys, applied-known, everywhere-from, everywhere-at, go-from, applied-mono, go-applied, go-everywhere, has-at, has-from, Obeys, stamp-fits, stamp-under}
 use Rattle.book.specs.Book.{Book, row, known, waiting}
 use Rattle.book.specs.Soundness.{Sound, me-in}
 use Rattle.book.specs.Step.{tapsOf, settle, nowApplied, nowCounted}

@@ -19,12 +19,13 @@ use Rattle.tally.specs.StandingLaws.{counts-same, counts-refl, afresh-at, afres
 use Rattle.tally.specs.Tap.{fields, tapFits, bodyFits, tapsIn}
 use Rattle.tally.specs.TapLaws.{among-mem, mem-among}
 use Rattle.tally.specs.declared.Tap.{Tap}
+use Rattle.ledger.specs.LimitLaws.{range-me}
 use Rattle.ledger.specs.Limits.{logRoom, bookRoom}
 use Rattle.ledger.specs.Log.{waitingIn}
 use Rattle.ledger.specs.LogLaws.{held-at, held-from}
 use Rattle.ledger.specs.Message.{inRange, messageFits, messageRules}
 use Rattle.ledger.specs.Record.{place, Record, recordFits, has, everywhere, mayGo, isApplied, stampOf, isKnown}
-use Rattle.ledger.specs.RecordLaws.{known-le, le-known, range-me}
+use Rattle.ledger.specs.RecordLaws.{known-le, le-known}
 use Rattle.book.specs.Book.{Book, row, known, waiting, fresh, sound, clauses, countedIn, standingAt}
 use Rattle.book.specs.Step.{send}
 

@@ -18,12 +18,13 @@ use Rattle.stamp.specs.Stamp.{Stamp, stampFits, part, total, replace, merge, at
 use Rattle.tally.specs.Tap.{tapFits, bodyFits}
 use Rattle.tally.specs.TapLaws.{body-word}
 use Rattle.tally.specs.declared.Tap.{Tap}
+use Rattle.ledger.specs.LimitLaws.{range-parts, room-word, range-me}
 use Rattle.ledger.specs.Limits.{bookRoom, logRoom}
 use Rattle.ledger.specs.Log.{gapless, unknowns}
 use Rattle.ledger.specs.LogLaws.{unknowns-mem, unknowns-rising, gapless-at, mem-unknowns}
 use Rattle.ledger.specs.Message.{Message, messageRules, messageFits, inRange}
 use Rattle.ledger.specs.Record.{stampOf, Record, place, recordFits, recordRules, has, isKnown}
-use Rattle.ledger.specs.RecordLaws.{range-parts, room-word, has-from, range-me, has-at, known-le}
+use Rattle.ledger.specs.RecordLaws.{has-from, has-at, known-le}
 use Rattle.book.specs.Book.{Book, sound, known, row, fresh}
 use Rattle.book.specs.Reply.{taken, refusal, Reply, isTaken, gossiped}
 use Rattle.book.specs.Settle.{Ready, settle-sound}

@@ -1,7 +1,7 @@
 -- No refused consent goes live, in any run. Assumes nothing.
 use Prim.Native.Nat.{ℕ, _<_, _≤_}
 use native.Mathlib.Omega.{arith}
-use mathlib.Core.Path.{ap, _≡_, subst, sym, _∙_, refl}
+use mathlib.Core.Path.{ap, _≡_, _∙_, sym, subst, refl}
 use mathlib.Core.Logic.{_≢_, _⊎_, inl, inr}
 use mathlib.Core.Bool.{not}
 use mathlib.Core.List.{List, _∷_, []}
@@ -12,21 +12,21 @@ use Rattle.stamp.specs.Laws.{atMost-parts}
 use Rattle.stamp.specs.Stamp.{Stamp, atMost}
 use Rattle.tally.specs.Limits.{decline, accept}
 use Rattle.tally.specs.Standing.{standing, Standing, contested, verdictOf, highest, ofPrompt}
-use Rattle.tally.specs.StandingLaws.{decline-counted, standing-over, accepted-only, standing-showing, both-contested, accept-counted, contested-not}
+use Rattle.tally.specs.StandingLaws.{decline-counted, standing-over, accepted-only, accept-there, standing-showing, both-contested, accept-counted, contested-not}
 use Rattle.tally.specs.Tap.{tapsIn, tapFits, bodyFits}
 use Rattle.tally.specs.TapLaws.{taps-body, prompt-in, answer-either}
 use Rattle.tally.specs.declared.Tap.{Tap}
 use Rattle.ledger.specs.Limits.{fewest, most}
-use Rattle.ledger.specs.Record.{Record, stampOf}
+use Rattle.ledger.specs.Record.{Record, stampOf, isApplied}
 use Rattle.ledger.specs.RecordLaws.{obeys}
 use Rattle.book.specs.Answers.{Permitted, permits-means}
 use Rattle.book.specs.Book.{Book, known, standingAt}
-use Rattle.book.specs.Reply.{showingOf, permits}
+use Rattle.book.specs.Reply.{taken, showingOf, permits}
 use Rattle.book.specs.Step.{ask}
 use Rattle.house.specs.Consent.{answerAt, Applied, isLatest, isDouble, Consent}
 use Rattle.house.specs.Demand.{appliedTaps}
 use Rattle.house.specs.House.{House, Run}
-use Rattle.house.proofs.Demand.{fresh-counts, mem-taps-applied, covered-is-applied}
+use Rattle.house.proofs.Demand.{fresh-counts, mem-taps-applied, covered-is-applied, taps-applied-mem}
 use Rattle.house.proofs.Invariant.{Inv}
 use Rattle.house.proofs.Runs.{run-inv}
 
@@ -46,7 +46,7 @@ module _ (n : ℕ) (h : House) (v : Inv n h) (i : ℕ) (u : i < n) where
   declines-below p l y r m c t x e f =
       either (tell (ltb (t .showing) ((standing taps p) .showing)))
       (λ less. omega (arith, ltb→lt (t .showing) ((standing taps p) .showing) less, y .shown, ap (λ (s : Standing). s .showing) same))
-      (λ more. absurd (omega (arith, decline-counted taps p t there-too e (omega (arith, nltb→le (t .showing) ((standing taps p) .showing) more, standing-over taps p t there-too e)) f, accepted-only (standingAt b p) (y .yes), ap (λ (s : Standing). s .declines) same)))
+      (λ more. absurd (omega (arith, decline-counted taps p t there-too e (omega (arith, nltb→le (t .showing) ((standing taps p) .showing) more, standing-over taps p t there-too e)) f, accepted-only (standingAt b p) (y .yes) .1, ap (λ (s : Standing). s .declines) same)))
     where
       same : standingAt b p ≡ standing taps p
       same = fresh-counts n h v i u p (y .asked .prompt-in)
@@ -55,6 +55,20 @@ module _ (n : ℕ) (h : House) (v : Inv n h) (i : ℕ) (u : i < n) where
       there-too =
           mem-taps-applied (known b) (h .history) r t m
           (covered-is-applied n h v i u r m (λ k. omega (arith, atMost-parts (stampOf r) l c k, y .asked .covered k, y .asked .sound-before .value-known k))) x
+
+  yes-was-tapped : (p : ℕ) (l : Stamp) → Permitted b p l → (t : Tap) × Applied h i t × (t .prompt ≡ p) × (t .answer ≡ accept) × (t .showing ≡ showingOf (answerAt h i p l))
+  yes-was-tapped p l y = go (accept-there taps p (omega (arith, accepted-only (standingAt b p) (y .yes) .0, ap (λ (s : Standing). s .accepts) same)))
+    where
+      same : standingAt b p ≡ standing taps p
+      same = fresh-counts n h v i u p (y .asked .prompt-in)
+
+      found : (t : Tap) → ((r : Record) × (r ∈ h .history) × T (isApplied (known b) r) × (t ∈ tapsIn (r .body))) → Applied h i t
+      found t w = record { from = w .0; taken = w .1; applied = w .2; says = w .3 }
+
+      go :
+          ((t : Tap) × (t ∈ taps) × (t .prompt ≡ p) × (t .showing ≡ (standing taps p) .showing) × (t .answer ≡ accept))
+          → (t : Tap) × Applied h i t × (t .prompt ≡ p) × (t .answer ≡ accept) × (t .showing ≡ showingOf (answerAt h i p l))
+      go w = (w .0, found (w .0) (taps-applied-mem (known b) (h .history) (w .0) (w .1)), w .2, w .4, w .3 ∙ sym (y .shown ∙ ap (λ (s : Standing). s .showing) same))
 
   -- two applied taps of one prompt with two answers, both of the highest showing
   contrary-contested :
@@ -101,6 +115,7 @@ no-refused-consent n lo hi h run =
     let v : Inv n h = run-inv n lo hi run in
     record {
       declines-below = λ i u p l y r m c t x e f. declines-below n h v i u p l (permits-means (h .book i) p l y) r m c t x e f;
+      yes-was-tapped = λ i u p l y. yes-was-tapped n h v i u p l (permits-means (h .book i) p l y);
       double-contested = λ i u t w d x y a c.
           let e : verdictOf (standingAt (h .book i) (t .prompt)) ≡ contested = contrary-contested n h v i u t w (double-prompt t w d) (double-answers t w d) x y a c in
           (e, contested-no (h .book i) (t .prompt) e);

@@ -19,12 +19,13 @@ use Rattle.tally.specs.StandingLaws.{count-has, count-put}
 use Rattle.tally.specs.Tap.{tapsIn, fields, bodyFits}
 use Rattle.tally.specs.TapLaws.{prompt-in}
 use Rattle.tally.specs.declared.Tap.{Tap}
+use Rattle.ledger.specs.LimitLaws.{range-parts, room-word}
 use Rattle.ledger.specs.Limits.{most, fewest}
 use Rattle.ledger.specs.Log.{mergeAll, gapless}
 use Rattle.ledger.specs.LogLaws.{mergeAll-over, mergeAll-under, mergeAll-fits, gapless-from}
 use Rattle.ledger.specs.Message.{Message, messageFits}
 use Rattle.ledger.specs.Record.{Record, isWaiting, isApplied, isKnown, has, stampOf}
-use Rattle.ledger.specs.RecordLaws.{Obeys, stamp-fits, range-parts, applied-known, room-word, obeys, waiting-known, go-applied, waiting-not, covered-applied, applied-label, has-from, le-known}
+use Rattle.ledger.specs.RecordLaws.{Obeys, stamp-fits, applied-known, obeys, waiting-known, go-applied, waiting-not, covered-applied, applied-label, has-from, le-known}
 use Rattle.book.specs.Answers.{done-answered, answered-done, AskDone}
 use Rattle.book.specs.Book.{known, Book, sound, standingAt, row}
 use Rattle.book.specs.Reply.{Reply, isAnswered}
@@ -60,7 +61,7 @@ pub mem-taps-applied : (s : Stamp) (hs : List Record) (r : Record) (t : Tap) →
 unfolding appliedTaps distinct
 mem-taps-applied s hs r t m a n = count-has (tapsOf (appliedOf s hs)) [] t (mem-taps (appliedOf s hs) r t (mem-applied s hs r m a) n)
 
-taps-applied-mem : (s : Stamp) (hs : List Record) (t : Tap) → t ∈ appliedTaps s hs → (r : Record) × (r ∈ hs) × T (isApplied s r) × (t ∈ tapsIn (r .body))
+pub taps-applied-mem : (s : Stamp) (hs : List Record) (t : Tap) → t ∈ appliedTaps s hs → (r : Record) × (r ∈ hs) × T (isApplied s r) × (t ∈ tapsIn (r .body))
 unfolding appliedTaps distinct
 taps-applied-mem s hs t m = either (count-put (tapsOf (appliedOf s hs)) [] .from t m) (λ n. go (taps-mem (appliedOf s hs) t n)) (λ n. none-in n)
   where

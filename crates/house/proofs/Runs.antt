@@ -14,10 +14,11 @@ use Rattle.lists.specs.Rows.{kept}
 use Rattle.stamp.specs.Laws.{zeros-part, part-other, part-merge, Covers, fits}
 use Rattle.stamp.specs.Stamp.{part, Stamp}
 use Rattle.tally.specs.declared.Tap.{Tap}
+use Rattle.ledger.specs.LimitLaws.{range-from}
 use Rattle.ledger.specs.Limits.{fewest, most}
 use Rattle.ledger.specs.Message.{Message}
 use Rattle.ledger.specs.Record.{Record, stampOf, mayGo}
-use Rattle.ledger.specs.RecordLaws.{range-from, everywhere-at, go-everywhere}
+use Rattle.ledger.specs.RecordLaws.{everywhere-at, go-everywhere}
 use Rattle.book.specs.Answers.{ask-keeps}
 use Rattle.book.specs.Book.{fresh, known, row, Book}
 use Rattle.book.specs.Reply.{taken, Reply, isTaken}
