@@ -1,5 +1,5 @@
 -- Taps on the practice car: document 01's starred cases A to L as one table, and the order of refusals as another; one claim. Assumes nothing.
-use Prim.Native.Nat.{ℕ}
+use Prim.Native.Nat.{ℕ, suc}
 use mathlib.Core.Path.{_≡_, refl}
 use mathlib.Core.Bool.{true}
 use mathlib.Core.List.{List, _∷_, [], flatMap}
@@ -11,7 +11,7 @@ use Rattle.tally.specs.Standing.{among, countAll, ofPrompt, howMany, standing, 
 use Rattle.tally.specs.Tap.{wordOf, sameTap, tapFits, bodyFits}
 use Rattle.tally.specs.declared.Tap.{Tap}
 use Rattle.ledger.specs.Cases.{at, numbersOf}
-use Rattle.ledger.specs.Limits.{fewest, most, logRoom, bookRoom}
+use Rattle.ledger.specs.Limits.{bookRoom, fewest, most, logRoom}
 use Rattle.ledger.specs.Log.{unknowns, gathered, newlyApplied, remaining, waitingIn, allHeld, gapless}
 use Rattle.ledger.specs.Message.{Message, inRange, messageFits}
 use Rattle.ledger.specs.Record.{Record, stampOf, knows, isKnown, isApplied, isWaiting, everywhere, mayGo, has, recordFits}
@@ -99,8 +99,8 @@ ordered =
     ∷ (says (gossipStep (B .book) (message 4 4 (at 0 0 0) [])), 9 ∷ 1 ∷ [])
     ∷ (says (gossipStep (B .book) (message 0 3 (at 1 0 0) [])), 9 ∷ 2 ∷ [])
     ∷ (says (gossipStep (E .book) (message 0 3 (at 0 1 0) [])), 9 ∷ 5 ∷ [])
-    ∷ (says (gossipStep (E .book) (message 0 3 (at 2 2_000 0) [])), 9 ∷ 6 ∷ [])
-    ∷ (says (gossipStep (E .book) (message 0 3 (at 2_000 0 0) [])), 9 ∷ 7 ∷ [])
+    ∷ (says (gossipStep (E .book) (message 0 3 (at 2 (suc bookRoom) 0) [])), 9 ∷ 6 ∷ [])
+    ∷ (says (gossipStep (E .book) (message 0 3 (at (suc bookRoom) 0 0) [])), 9 ∷ 7 ∷ [])
     ∷ []
 
 -- the definitions give each line
