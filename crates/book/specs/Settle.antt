@@ -9,7 +9,6 @@ use lib.Dec.{T, ltb, ltb→lt, nltb→le}
 use lib.ListN.{length, length-append, getD}
 use Rattle.lists.specs.Facts.{_∈_, flatMap-mem, mem-flatMap, either, tell}
 use Rattle.lists.specs.Order.{rising}
-use Rattle.lists.specs.Rows.{rows}
 use Rattle.lists.specs.Sorted.{rising-one, Put}
 use Rattle.lists.specs.Tests.{every}
 use Rattle.stamp.specs.Laws.{Fits, Covers, fits, part-total, fits-test}

@@ -5,7 +5,6 @@ use mathlib.Core.List.{List, flatMap, [], _∷_}
 use mathlib.Core.Option.{Option, none, some}
 use lib.Dec.{ltb, leb, eqb}
 use lib.ListN.{set, getD, length}
-use Rattle.lists.specs.Rows.{rows}
 use Rattle.lists.specs.Tests.{exists, firstOf}
 use Rattle.stamp.specs.Stamp.{Stamp, merge, part, replace, stampFits, total, atMost, excess}
 use Rattle.tally.specs.Limits.{promptCount}

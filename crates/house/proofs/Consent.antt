@@ -21,7 +21,7 @@ use Rattle.ledger.specs.Record.{Record, stampOf, isApplied}
 use Rattle.ledger.specs.RecordLaws.{obeys}
 use Rattle.book.specs.Answers.{Permitted, permits-means}
 use Rattle.book.specs.Book.{Book, known, standingAt}
-use Rattle.book.specs.Reply.{taken, showingOf, permits}
+use Rattle.book.specs.Reply.{showingOf, permits}
 use Rattle.book.specs.Step.{ask}
 use Rattle.house.specs.Consent.{answerAt, Applied, isLatest, isDouble, Consent}
 use Rattle.house.specs.Demand.{appliedTaps}

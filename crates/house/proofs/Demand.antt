@@ -17,7 +17,6 @@ use Rattle.tally.specs.Limits.{promptCount}
 use Rattle.tally.specs.Standing.{distinct, standing}
 use Rattle.tally.specs.StandingLaws.{count-has, count-put}
 use Rattle.tally.specs.Tap.{tapsIn, fields, bodyFits}
-use Rattle.tally.specs.TapLaws.{prompt-in}
 use Rattle.tally.specs.declared.Tap.{Tap}
 use Rattle.ledger.specs.LimitLaws.{range-parts, room-word}
 use Rattle.ledger.specs.Limits.{most, fewest}

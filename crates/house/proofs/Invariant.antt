@@ -9,7 +9,6 @@ use lib.Dec.{T, eqb, eqb→eq, ltb, ltb→lt, nltb→le}
 use lib.ListN.{getD}
 use Rattle.lists.specs.Facts.{_∈_, either, is-true, is-false, not-from, tell}
 use Rattle.lists.specs.MoreFacts.{same-or-not, eq→eqb}
-use Rattle.lists.specs.Rows.{rows}
 use Rattle.lists.specs.Sorted.{rising-one}
 use Rattle.stamp.specs.Laws.{Covers}
 use Rattle.stamp.specs.Stamp.{Stamp, part}

@@ -5,13 +5,11 @@ use mathlib.Core.Path.{refl, _≡_, fun-ext, _∙_, ap, sym, ap₂, subst}
 use mathlib.Core.Logic.{inl, inr, _⊎_, _≢_}
 use mathlib.Core.Bool.{not, Bool, cond}
 use mathlib.Core.List.{[], List, _∷_, List·Memᴰ·cases-cons}
-use mathlib.Core.Option.{some}
 use lib.Dec.{T}
 use lib.ListN.{getD}
 use Rattle.lists.specs.Facts.{none-in, either, is-false, here, there, _∈_}
 use Rattle.lists.specs.MoreFacts.{same-or-not}
-use Rattle.lists.specs.Rows.{kept}
-use Rattle.stamp.specs.Laws.{zeros-part, part-other, part-merge, Covers, fits}
+use Rattle.stamp.specs.Laws.{zeros-part, part-other, part-merge, Covers}
 use Rattle.stamp.specs.Stamp.{part, Stamp}
 use Rattle.tally.specs.declared.Tap.{Tap}
 use Rattle.ledger.specs.LimitLaws.{range-from}

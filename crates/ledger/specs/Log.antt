@@ -4,7 +4,6 @@ use mathlib.Core.Bool.{not, _&&_, Bool, _||_}
 use mathlib.Core.List.{List, [], _∷_}
 use lib.Dec.{ltb}
 use Rattle.lists.specs.Order.{insertAll}
-use Rattle.lists.specs.Rows.{rows}
 use Rattle.lists.specs.Tests.{keep, allBelow}
 use Rattle.stamp.specs.Stamp.{Stamp, merge, part}
 use Rattle.ledger.specs.Message.{Message}

@@ -8,7 +8,6 @@ use lib.Dec.{T, leb, leb→le, le→leb, nleb→lt, eqb, eqb→eq, ltb→lt}
 use lib.ListN.{length, getD}
 use Rattle.lists.specs.Facts.{and-l, and-r, both, every-getD, getD-every, _∈_, exists-at, exists-from, all-at, either}
 use Rattle.lists.specs.MoreFacts.{eq→eqb}
-use Rattle.lists.specs.Rows.{rows}
 use Rattle.stamp.specs.Laws.{Covers, atMost-parts, parts-atMost, Fits, fits, part-replaced, part-either, fits-replace}
 use Rattle.stamp.specs.Limits.{parts, word}
 use Rattle.stamp.specs.Stamp.{Stamp, part, atMost}
