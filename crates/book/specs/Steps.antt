@@ -15,8 +15,9 @@ use Rattle.lists.specs.Order.{rising}
 use Rattle.lists.specs.Tests.{every, firstOf}
 use Rattle.stamp.specs.Laws.{fits, Fits, Covers, part-either, fits-test, fits-replace, part-total, total-next, part-replaced, atMost-parts, part-merge, fits-merge}
 use Rattle.stamp.specs.Stamp.{Stamp, stampFits, part, total, replace, merge, atMost}
-use Rattle.tally.specs.Tap.{tapFits, bodyFits}
-use Rattle.tally.specs.TapLaws.{body-word}
+use Rattle.tally.specs.Tap.{tapFits, tapsIn, bodyFits}
+use Rattle.tally.specs.TapLaws.{taps-word}
+use Rattle.tally.specs.WordLaws.{tap-body}
 use Rattle.tally.specs.declared.Tap.{Tap}
 use Rattle.ledger.specs.LimitLaws.{range-parts, room-word, range-me}
 use Rattle.ledger.specs.Limits.{bookRoom, logRoom}
@@ -71,7 +72,7 @@ tap-cases b t l = go (firstOf (tapStops b t l)) refl
     go (some r) e = inl (r, first-passes (λ x. not (isTaken x)) (tapStops b t l) tt r e, ap (stopOr b (tap-out b t l)) e)
     go none e = inr (tap-passed b t l (firstOf-none (tapStops b t l) e), ap (stopOr b (tap-out b t l)) e)
 
--- the record that a tap makes, and the known stamp after it
+-- the record that a tap makes: it says that tap and no other; and the known stamp after it
 pub new-origin : (b : Book) (t : Tap) (l : Stamp) → (newRecord b t l) .origin ≡ b .me
 unfolding newRecord
 new-origin b t l = refl
@@ -79,6 +80,10 @@ new-origin b t l = refl
 pub new-number : (b : Book) (t : Tap) (l : Stamp) → (newRecord b t l) .number ≡ suc (part (known b) (b .me))
 unfolding newRecord
 new-number b t l = refl
+
+pub new-says : (b : Book) (t : Tap) (l : Stamp) → T (tapFits t) → tapsIn ((newRecord b t l) .body) ≡ t ∷ []
+unfolding newRecord
+new-says b t l h = taps-word t h
 
 abbrev pub nextOf : Book → Stamp
 nextOf b = replace (known b) (b .me) (suc (part (known b) (b .me)))
@@ -103,7 +108,7 @@ module _ (b : Book) (t : Tap) (l : Stamp) (d : TapDone b t l) where
       also le→leb 1 (suc (part (known b) (b .me))) (omega arith)
       also lt→ltb (part l (b .me)) (suc (part (known b) (b .me))) (omega (arith, d .own))
       also d .label-fits
-      also body-word t (d .tap-fits)
+      also tap-body t (d .tap-fits)
       also done)
 
   tap-rows-long : length (tapRows b) ≡ b .screens

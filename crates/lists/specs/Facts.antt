@@ -248,3 +248,10 @@ every-getD p (x ∷ xs) d t (suc k) h = every-getD p xs d (and-r (p x) (every p 
 
 pub getD-every : {A : Type 0} (p : A → Bool) (xs : List A) (d : A) → ((k : ℕ) → k < length xs → T (p (getD xs k d))) → T (every p xs)
 getD-every p xs d f = place-every p xs d f
+
+-- two tests that pass together are one
+pub same-test : (a b : Bool) → (T a → T b) → (T b → T a) → a ≡ b
+same-test true true f g = refl
+same-test true false f g = absurd (f tt)
+same-test false true f g = absurd (g tt)
+same-test false false f g = refl

@@ -6,4 +6,5 @@ pub mod Sorted
 pub mod Scan
 pub mod Part
 pub mod Rows
+pub mod EveryScan
 pub mod MoreFacts

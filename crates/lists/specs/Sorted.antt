@@ -22,7 +22,7 @@ pub sameKey-refl : (a : List ℕ) → T (sameKey a a)
 sameKey-refl [] = tt
 sameKey-refl (x ∷ a) = both (eqb x x) (sameKey a a) (eqb-refl x) (sameKey-refl a)
 
-before-cons : (x y : ℕ) (a b : List ℕ) → T (keyBefore (x ∷ a) (y ∷ b)) → (x < y) ⊎ ((x ≡ y) × T (keyBefore a b))
+pub before-cons : (x y : ℕ) (a b : List ℕ) → T (keyBefore (x ∷ a) (y ∷ b)) → (x < y) ⊎ ((x ≡ y) × T (keyBefore a b))
 before-cons x y a b t =
     either (or-cases (ltb x y) (eqb x y && keyBefore a b) t) (λ l. inl (ltb→lt x y l))
     (λ r. inr (eqb→eq x y (and-l (eqb x y) (keyBefore a b) r), and-r (eqb x y) (keyBefore a b) r))

@@ -1,6 +1,6 @@
 -- A tap, its field rules, and a tap as one word. Assumes nothing.
 use Prim.Native.Nat.{ℕ, _+_, _*_, _/_, _%_, _<_}
-use mathlib.Core.Bool.{Bool}
+use mathlib.Core.Bool.{Bool, _&&_}
 use mathlib.Core.List.{List, [], _∷_}
 use lib.Dec.{leb, ltb}
 use Rattle.lists.specs.Tests.{all, every}
@@ -19,8 +19,12 @@ sameTap t u = sameKey (fields t) (fields u)
 -- front end (0 to 255), serial (32 bits), prompt (0 to 63), showing (1 to 65,535), answer (1 accept, 2 decline)
 abbrev pub tapRules : Tap → List Bool
 tapRules t =
-    ltb (t .front) frontEnds ∷ ltb (t .serial) serials ∷ ltb (t .prompt) promptCount ∷ leb 1 (t .showing) ∷ ltb (t .showing) showings ∷ leb accept (t .answer)
-    ∷ leb (t .answer) decline ∷ []
+    ltb (t .front) frontEnds
+    ∷ ltb (t .serial) serials
+    ∷ ltb (t .prompt) promptCount
+    ∷ (leb 1 (t .showing) && ltb (t .showing) showings)
+    ∷ (leb accept (t .answer) && leb (t .answer) decline)
+    ∷ []
 
 unfoldable pub tapFits : Tap → Bool
 tapFits t = all (tapRules t)

@@ -1,23 +1,34 @@
--- Laws of a tap as one word: what is written is read back, both ways. Assumes nothing.
-use Prim.Native.Nat.{_/_, _%_, ℕ}
+-- Laws of the word: word and fields give each other back, the numeric order of words is the order of the five fields, and two
+-- taps are the same exactly when the words are. Assumes nothing.
+use Prim.Native.Nat.{ℕ, _+_, _*_, _/_, _%_, _<_, _^_}
 use native.Mathlib.Omega.{arith}
-use mathlib.Core.Path.{_≡_}
-use lib.Dec.{T, ltb→lt, leb→le}
-use Rattle.lists.specs.Facts.{all-at}
-use Rattle.tally.specs.Limits.{frontEnds, serials, promptCount, showings, decline}
-use Rattle.tally.specs.Tap.{tapFits, FitsBits, tapRules, tapOf, wordOf}
+use mathlib.Core.Path.{_≡_, refl, sym, ap, subst, _∙_}
+use mathlib.Core.Bool.{Bool, true, false}
+use lib.Dec.{T, leb, ltb, eqb, leb→le, ltb→lt, lt→ltb, eqb→eq, eqb-refl}
+use lib.ListN.{getD, drop}
+use Rattle.lists.specs.Tests.{all, every}
+use Rattle.lists.specs.Order.{sameKey, keyBefore}
+use Rattle.lists.specs.Facts.{either, tell, and-l, and-r, both, all-at, same-test}
+use Rattle.lists.specs.Sorted.{before-cons, before-total, sameKey→≡, sameKey-refl}
 use Rattle.tally.specs.declared.Tap.{Tap}
+use Rattle.tally.specs.Limits.{frontEnds, serials, promptCount, showings, accept, decline}
+use Rattle.tally.specs.Tap.{fields, sameTap, tapRules, tapFits, FitsBits, wordOf, tapOf, tapsIn, bodyFits}
 
+-- a tap that keeps the field rules fits the word
 pub fits-bits : (t : Tap) → T (tapFits t) → FitsBits t
 unfolding tapFits frontEnds serials promptCount showings decline
 fits-bits t h =
     record {
-      front = ltb→lt (t .front) frontEnds (all-at (tapRules t) 0 h);
-      serial = ltb→lt (t .serial) serials (all-at (tapRules t) 1 h);
-      prompt = ltb→lt (t .prompt) promptCount (all-at (tapRules t) 2 h);
-      showing = ltb→lt (t .showing) showings (all-at (tapRules t) 4 h);
-      answer = omega (arith, leb→le (t .answer) decline (all-at (tapRules t) 6 h));
+      front = ltb→lt (t .front) 256 (all-at (tapRules t) 0 h);
+      serial = ltb→lt (t .serial) 4294967296 (all-at (tapRules t) 1 h);
+      prompt = ltb→lt (t .prompt) 64 (all-at (tapRules t) 2 h);
+      showing = ltb→lt (t .showing) 65536 (and-r (leb 1 (t .showing)) (ltb (t .showing) 65536) (all-at (tapRules t) 3 h));
+      answer = omega (arith, leb→le (t .answer) 2 (and-r (leb accept (t .answer)) (leb (t .answer) 2) (all-at (tapRules t) 4 h)));
     }
+
+-- word and fields give each other back
+pub word-tap : (w : ℕ) → wordOf (tapOf w) ≡ w
+word-tap w = omega arith
 
 pub tap-word : (t : Tap) → FitsBits t → tapOf (wordOf t) ≡ t
 tap-word t h =
@@ -28,5 +39,52 @@ tap-word t h =
     let e : wordOf t % 4 ≡ t .answer = omega arith in
     λ i. record { front = a i; serial = b i; prompt = p i; showing = d i; answer = e i }
 
-pub word-tap : (w : ℕ) → wordOf (tapOf w) ≡ w
-word-tap w = omega arith
+pub word-small : (t : Tap) → FitsBits t → wordOf t < 2 ^ 64
+word-small t h = omega arith
+
+-- the order of words is the order of the five fields
+before-word : (t u : Tap) → FitsBits t → FitsBits u → T (keyBefore (fields t) (fields u)) → wordOf t < wordOf u
+before-word t u h k b =
+    either (before-cons (t .front) (u .front) (drop 1 (fields t)) (drop 1 (fields u)) b) (λ l. omega arith)
+    (λ e. either (before-cons (t .serial) (u .serial) (drop 2 (fields t)) (drop 2 (fields u)) (e .1)) (λ l. omega (arith, e .0))
+    (λ f. either (before-cons (t .prompt) (u .prompt) (drop 3 (fields t)) (drop 3 (fields u)) (f .1)) (λ l. omega (arith, e .0, f .0))
+    (λ g. either (before-cons (t .showing) (u .showing) (drop 4 (fields t)) (drop 4 (fields u)) (g .1)) (λ l. omega (arith, e .0, f .0, g .0))
+    (λ i. either (before-cons (t .answer) (u .answer) (drop 5 (fields t)) (drop 5 (fields u)) (i .1)) (λ l. omega (arith, e .0, f .0, g .0, i .0)) (λ j. absurd (j .1))))))
+
+same-fields : (t u : Tap) → fields t ≡ fields u → t ≡ u
+same-fields t u e =
+    λ i. record { front = getD (e i) 0 0; serial = getD (e i) 1 0; prompt = getD (e i) 2 0; showing = getD (e i) 3 0; answer = getD (e i) 4 0 }
+
+word-before : (t u : Tap) → FitsBits t → FitsBits u → wordOf t < wordOf u → T (keyBefore (fields t) (fields u))
+word-before t u h k l =
+    either (tell (keyBefore (fields t) (fields u))) (λ b. b)
+    (λ n. either (tell (keyBefore (fields u) (fields t))) (λ b. absurd (omega (arith, before-word u t k h b)))
+    (λ m. absurd (omega (arith, ap (λ (x : Tap). wordOf x) (same-fields t u (before-total (fields t) (fields u) n m))))))
+
+pub word-order : (t u : Tap) → FitsBits t → FitsBits u → keyBefore (fields t) (fields u) ≡ ltb (wordOf t) (wordOf u)
+word-order t u h k =
+    same-test (keyBefore (fields t) (fields u)) (ltb (wordOf t) (wordOf u)) (λ b. lt→ltb (wordOf t) (wordOf u) (before-word t u h k b))
+    (λ l. word-before t u h k (ltb→lt (wordOf t) (wordOf u) l))
+
+-- two taps are the same exactly when the words are
+pub same-tap : (t u : Tap) → T (sameTap t u) → t ≡ u
+unfolding sameTap
+same-tap t u s = same-fields t u (sameKey→≡ (fields t) (fields u) s)
+
+pub tap-same : (t : Tap) → T (sameTap t t)
+unfolding sameTap
+tap-same t = sameKey-refl (fields t)
+
+pub same-word : (t u : Tap) → FitsBits t → FitsBits u → sameTap t u ≡ eqb (wordOf t) (wordOf u)
+same-word t u h k =
+    same-test (sameTap t u) (eqb (wordOf t) (wordOf u)) (λ s. subst (λ (x : Tap). T (eqb (wordOf t) (wordOf x))) (same-tap t u s) (eqb-refl (wordOf t)))
+    (λ e. subst (λ (x : Tap). T (sameTap t x)) (sym (tap-word t h) ∙ ap tapOf (eqb→eq (wordOf t) (wordOf u) e) ∙ tap-word u k) (tap-same t))
+
+-- a body keeps its rule exactly when its tap keeps the field rules
+pub body-tap : (w : ℕ) → T (bodyFits w) → T (tapFits (tapOf w))
+unfolding bodyFits
+body-tap w h = and-l (tapFits (tapOf w)) true h
+
+pub tap-body : (t : Tap) → T (tapFits t) → T (bodyFits (wordOf t))
+unfolding bodyFits
+tap-body t h = both (tapFits (tapOf (wordOf t))) true (subst (λ (x : Tap). T (tapFits x)) (sym (tap-word t (fits-bits t h))) h) tt

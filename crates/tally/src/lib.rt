@@ -1,6 +1,21 @@
 // What counts: taps, and what a prompt's taps come to. Knows nothing of stamps and screens.
 ghost use mathlib.Core.Path.{_≡_};
-ghost use Rattle.tally.specs.Tap.{FitsBits, wordOf, tapOf};
+ghost use mathlib.Core.Bool.{_&&_};
+ghost use lib.Dec.{leb, ltb};
+ghost use Rattle.tally.specs.Limits.{frontEnds, serials, promptCount, showings, accept, decline};
+ghost use Rattle.tally.specs.Tap.{FitsBits, tapFits, wordOf, tapOf};
+
+const LAST_FRONT_END: u64 = 255;
+
+const LAST_SERIAL: u64 = 4294967295;
+
+const LAST_PROMPT: u64 = 63;
+
+const LAST_SHOWING: u64 = 65535;
+
+const ACCEPT: u64 = 1;
+
+const DECLINE: u64 = 2;
 
 // A tap's five fields, in document 01's order.
 pub struct Tap {
@@ -30,4 +45,69 @@ pub fn unpack(w: u64) -> Tap
         showing: w / 4 % 65536,
         answer: w % 4,
     }
+}
+
+// The range of each field.
+fn front_fits(front: u64) -> bool
+    ensures { λ r. ⌜ r ≡ ltb front frontEnds ⌝ }
+{
+    match front {
+        0..=LAST_FRONT_END => true,
+        _ => false,
+    }
+}
+
+fn serial_fits(serial: u64) -> bool
+    ensures { λ r. ⌜ r ≡ ltb serial serials ⌝ }
+{
+    match serial {
+        0..=LAST_SERIAL => true,
+        _ => false,
+    }
+}
+
+pub fn prompt_fits(prompt: u64) -> bool
+    ensures { λ r. ⌜ r ≡ ltb prompt promptCount ⌝ }
+{
+    match prompt {
+        0..=LAST_PROMPT => true,
+        _ => false,
+    }
+}
+
+fn showing_fits(showing: u64) -> bool
+    ensures { λ r. ⌜ r ≡ (leb 1 showing && ltb showing showings) ⌝ }
+{
+    match showing {
+        1..=LAST_SHOWING => true,
+        _ => false,
+    }
+}
+
+fn answer_fits(answer: u64) -> bool
+    ensures { λ r. ⌜ r ≡ (leb accept answer && leb answer decline) ⌝ }
+{
+    match answer {
+        ACCEPT..=DECLINE => true,
+        _ => false,
+    }
+}
+
+// Whether the tap keeps the field rules.
+pub fn fits(t: Tap) -> bool
+    ensures { λ r. ⌜ r ≡ tapFits t ⌝ }
+{
+    if !front_fits(t.front) {
+        return false;
+    }
+    if !serial_fits(t.serial) {
+        return false;
+    }
+    if !prompt_fits(t.prompt) {
+        return false;
+    }
+    if !showing_fits(t.showing) {
+        return false;
+    }
+    answer_fits(t.answer)
 }
