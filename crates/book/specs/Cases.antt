@@ -1,9 +1,11 @@
 -- Taps on the practice car: document 01's starred cases A to L as one table, and the order of refusals as another; one claim. Assumes nothing.
 use Prim.Native.Nat.{ℕ, suc}
 use mathlib.Core.Path.{_≡_, refl}
-use mathlib.Core.Bool.{true}
-use mathlib.Core.List.{List, _∷_, [], flatMap}
+use mathlib.Core.Bool.{Bool, false, true}
+use mathlib.Core.List.{List, [], _∷_, flatMap}
+use mathlib.Core.Option.{none, some}
 use Rattle.lists.specs.Table.{agrees}
+use Rattle.lists.specs.Tests.{firstOf}
 use Rattle.stamp.specs.Limits.{word, parts}
 use Rattle.stamp.specs.Stamp.{Stamp, zeros, stampFits}
 use Rattle.tally.specs.Limits.{frontEnds, serials, promptCount, showings, accept, decline}
@@ -16,8 +18,8 @@ use Rattle.ledger.specs.Log.{unknowns, gathered, newlyApplied, remaining, waiti
 use Rattle.ledger.specs.Message.{Message, inRange, messageFits}
 use Rattle.ledger.specs.Record.{Record, stampOf, knows, isKnown, isApplied, isWaiting, everywhere, mayGo, has, recordFits}
 use Rattle.book.specs.Book.{fresh, waiting, known, row, standingAt, holds, countedIn, clauses, sound}
-use Rattle.book.specs.Reply.{figures}
-use Rattle.book.specs.Step.{send, Outcome, tapStep, gossipStep, ask, nowApplied, tapsOf, nowCounted, settle, newRecord, tapRows, tapStops, askStops, answerOf, newOnes, gossipRows, gossipStops}
+use Rattle.book.specs.Reply.{figures, Reply}
+use Rattle.book.specs.Step.{send, Outcome, tapStep, gossipStep, ask, openStops, sendStops, nowApplied, tapsOf, nowCounted, settle, newRecord, tapRows, tapStops, askStops, answerOf, newOnes, gossipRows, gossipStops}
 
 -- front end, serial, prompt, showing, answer
 tapped : ℕ → ℕ → ℕ → ℕ → ℕ → Tap
@@ -29,6 +31,9 @@ message j n s rs = record { sender = j; screens = n; stamp = s; records = rs }
 
 says : Outcome → List ℕ
 says o = figures (o .reply)
+
+stopped : List (Bool × Reply) → List ℕ
+stopped stops = elim (firstOf stops) [ none ↦ [] | some r ↦ figures r ]
 
 A : Outcome
 A = tapStep (fresh 0 3) (tapped 5 1 7 1 1) (at 0 0 0)
@@ -86,8 +91,13 @@ starred =
 -- where two stops hold, the reply is that of the earlier
 pub ordered : List (List ℕ × List ℕ)
 ordered =
+    -- open: 11 before 2; send: 11 before 12
+    (stopped (openStops false 3 3), 9 ∷ 11 ∷ [])
+    ∷ (stopped (openStops true 3 3), 9 ∷ 2 ∷ [])
+    ∷ (stopped (sendStops (fresh 3 3) 37 36), 9 ∷ 11 ∷ [])
+    ∷ (stopped (sendStops (fresh 2 3) 37 36), 9 ∷ 12 ∷ [])
     -- tap: 11 before 1, 1 before 3, 3 before Already
-    (says (tapStep (fresh 3 3) (tapped 5 1 7 1 0) (at 0 0 0)), 9 ∷ 11 ∷ [])
+    ∷ (says (tapStep (fresh 3 3) (tapped 5 1 7 1 0) (at 0 0 0)), 9 ∷ 11 ∷ [])
     ∷ (says (tapStep (B .book) (tapped 5 1 7 1 0) (at 3 0 0)), 9 ∷ 1 ∷ [])
     ∷ (says (tapStep (B .book) (tapped 5 1 7 1 1) (at 3 0 0)), 9 ∷ 3 ∷ [])
     -- question: 11 before 1, 1 before 3, 3 before Wait
@@ -105,5 +115,5 @@ ordered =
 
 -- the definitions give each line
 pub practice : (agrees starred ≡ true) × (agrees ordered ≡ true)
-unfolding tapped message says A B E G H starred ordered parts word zeros stampFits frontEnds serials promptCount showings accept decline sameTap tapFits bodyFits among countAll ofPrompt howMany standingOf standing afresh unasked accepted declined contested verdictOf fewest most logRoom bookRoom inRange messageFits stampOf knows isKnown isApplied isWaiting everywhere mayGo has recordFits unknowns gathered newlyApplied remaining waitingIn allHeld gapless row known standingAt waiting fresh holds countedIn clauses sound figures nowApplied tapsOf nowCounted settle newRecord tapRows tapStops tapStep askStops answerOf ask send newOnes gossipRows gossipStops gossipStep flatMap
+unfolding tapped message says stopped A B E G H starred ordered parts word zeros stampFits frontEnds serials promptCount showings accept decline sameTap tapFits bodyFits among countAll ofPrompt howMany standingOf standing afresh unasked accepted declined contested verdictOf fewest most logRoom bookRoom inRange messageFits stampOf knows isKnown isApplied isWaiting everywhere mayGo has recordFits unknowns gathered newlyApplied remaining waitingIn allHeld gapless row known standingAt waiting fresh holds countedIn clauses sound figures nowApplied tapsOf nowCounted settle newRecord tapRows openStops tapStops tapStep askStops answerOf ask send sendStops newOnes gossipRows gossipStops gossipStep flatMap
 practice = (refl, refl)

@@ -52,11 +52,13 @@ settle b rows new =
       prompts = afresh (nowCounted b (getD rows (b .me) []) new);
     }
 
--- Open: the stops behind the one on the length
-unfoldable pub openStops : ℕ → ℕ → List (Bool × Reply)
-openStops i n =
+-- Open writes the fresh book of screen i of N; `rightLength` says whether the lent book has the one fixed length
+unfoldable pub openStops : Bool → ℕ → ℕ → List (Bool × Reply)
+openStops rightLength i n =
+    -- the lent book is of wrong length
+    (not rightLength, refusal 11)
     -- N outside 2..8 or i not below N
-    (not (inRange i n), refusal 2)
+    ∷ (not (inRange i n), refusal 2)
     ∷ []
 
 -- Tap: raise the known stamp's part i by one, make the record, put the book in order
@@ -115,6 +117,15 @@ ask b p l = stopOr b (record { reply = answerOf (standingAt b p) (b .value); boo
 -- Send: the known stamp and the whole log as one gossip message; the book doesn't change
 unfoldable pub send : Book → Message
 send b = record { sender = b .me; screens = b .screens; stamp = known b; records = b .log }
+
+-- `need` is the length of the message, `room` that of the output
+unfoldable pub sendStops : Book → ℕ → ℕ → List (Bool × Reply)
+sendStops b need room =
+    -- the lent book is unsound
+    (not (sound b), refusal 11)
+    -- output shorter than the message
+    ∷ (ltb room need, refusal 12)
+    ∷ []
 
 -- Gossip from j with stamp m: keep the records not yet known, merge m into the known stamp, set row j to m, apply what is
 -- ready, drop what may go

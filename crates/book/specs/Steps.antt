@@ -281,9 +281,12 @@ module _ (b : Book) (m : Message) (d : GossipDone b m) where
       }
 
 -- Every step keeps every sound book sound, reached in a run or not.
-pub open-sound : (i n : ℕ) → firstOf (openStops i n) ≡ none → T (sound (fresh i n))
+pub open-sound : (rightLength : Bool) (i n : ℕ) → firstOf (openStops rightLength i n) ≡ none → T (sound (fresh i n))
 unfolding openStops
-open-sound i n e = at-sound (fresh i n) (fresh-sound i n (not-not (inRange i n) (and-l (not (not (inRange i n))) true (firstOf-none ((not (inRange i n), refusal 2) ∷ []) e))))
+open-sound rightLength i n e = at-sound (fresh i n) (fresh-sound i n (not-not (inRange i n) (at 1)))
+  where
+    at : (k : ℕ) → T (not ((getD (openStops rightLength i n) k (false, refusal 0)) .0))
+    at k = every-place (λ c. not (c .0)) (openStops rightLength i n) (false, refusal 0) (firstOf-none (openStops rightLength i n) e) tt k
 
 pub tap-sound : (b : Book) (t : Tap) (l : Stamp) → T (sound b) → T (sound ((tapStep b t l) .book))
 tap-sound b t l s =
