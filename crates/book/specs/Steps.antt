@@ -2,15 +2,15 @@
 use Prim.Native.Nat.{_≤_, _<_, ℕ, suc, _+_, max}
 use native.Mathlib.Omega.{arith}
 use mathlib.Core.Path.{ap, _≡_, refl, _∙_, subst, sym}
-use mathlib.Core.Logic.{_⊎_, inl, inr, _≢_}
+use mathlib.Core.Logic.{_⊎_, inl, inr}
 use mathlib.Core.Bool.{not, _&&_, false, true, Bool}
 use mathlib.Core.List.{_∷_, [], List·Memᴰ·cases-cons}
 use mathlib.Core.Option.{Option, some, none}
 use lib.Dec.{T, nltb→le, nleb→lt, lt→ltb, le→leb, eqb, eqb→eq}
 use lib.ListN.{length, set, getD, length-set}
 use lib.Seq.{getD-set-same}
-use Rattle.lists.specs.Facts.{here, not-not, and-l, and-r, every-place, firstOf-none, either, all-from, _also_, done, _∈_, none-in, all-at, clash, tell, not-and, firstOf-some, every-at}
-use Rattle.lists.specs.MoreFacts.{first-passes, set-either, every-set, nor-l, eq→eqb, nor-r}
+use Rattle.lists.specs.Facts.{here, not-not, and-l, and-r, every-place, firstOf-none, either, all-from, _also_, done, _∈_, none-in, all-at, tell, clash, not-and, firstOf-some, every-at}
+use Rattle.lists.specs.MoreFacts.{first-passes, set-either, every-set, nor-l}
 use Rattle.lists.specs.Order.{rising}
 use Rattle.lists.specs.Tests.{every, firstOf}
 use Rattle.stamp.specs.Laws.{fits, Fits, Covers, part-either, fits-test, fits-replace, part-total, total-next, part-replaced, atMost-parts, part-merge, fits-merge}
@@ -157,7 +157,6 @@ pub record GossipDone (b : Book) (m : Message) : Type 0 where
   pub sound-before : Sound b
   pub rules : (k : ℕ) → T (getD (messageRules bodyFits m) k true)
   pub house : m .screens ≡ b .screens
-  pub other : m .sender ≢ b .me
   pub newer : Covers (m .stamp) (row b (m .sender))
   pub own : part (m .stamp) (b .me) ≤ part (known b) (b .me)
   pub unspent : total (merge (known b) (m .stamp)) ≤ bookRoom
@@ -178,7 +177,6 @@ gossip-passed b m p =
       sound-before = sound-at b (not-not (sound b) (at 0));
       rules = λ k. all-at (messageRules bodyFits m) k (not-not (messageFits bodyFits m) (at 1));
       house = eqb→eq (m .screens) (b .screens) (not-not (eqb (m .screens) (b .screens)) (nor-l (not (eqb (m .screens) (b .screens))) (eqb (m .sender) (b .me)) (at 2)));
-      other = λ e. clash (eqb (m .sender) (b .me)) (eq→eqb (m .sender) (b .me) e) (nor-r (not (eqb (m .screens) (b .screens))) (eqb (m .sender) (b .me)) (at 2));
       newer = atMost-parts (row b (m .sender)) (m .stamp)
           (either (tell (atMost (row b (m .sender)) (m .stamp))) (λ h. h)
           (λ h. clash (not (atMost (m .stamp) (row b (m .sender)))) (at 3) (not-and (not (atMost (row b (m .sender)) (m .stamp))) (not (atMost (m .stamp) (row b (m .sender)))) (at 4) h)));
