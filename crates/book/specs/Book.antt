@@ -15,28 +15,33 @@ use Rattle.ledger.specs.Log.{waitingIn, allHeld}
 use Rattle.ledger.specs.Message.{inRange}
 use Rattle.ledger.specs.Record.{Record, place, isKnown, recordFits, mayGo, isApplied, stampOf}
 
--- The book of screen i (`me`) of N (`screens`). The known stamp is row i of the table: it is held once.
+-- The book of screen i (`me`) of N (`screens`) holds:
 pub record Book : Type 0 where
   pub me : ℕ
   pub screens : ℕ
+  -- the table, a row per screen; row i is the known stamp, which is held there alone
   pub table : List Stamp
+  -- the value stamp: the merge of the stamps of all applied records, zero if none
   pub value : Stamp
+  -- the log, at most 256 records, by origin, then number
   pub log : List Record
+  -- the counted taps, in order of the five fields
   pub counted : List Tap
+  -- for each prompt the highest showing among its counted taps (0 if none), and how many of that showing are accepts and declines
   pub prompts : List Standing
 
--- the table, a row per screen; row i is the known stamp
+-- row j, and the known stamp: part k says how many of screen k's records are known here, always the first so many
 unfoldable pub row : Book → ℕ → Stamp
 row b j = getD (b .table) j []
 
 unfoldable pub known : Book → Stamp
 known b = row b (b .me)
 
--- for each prompt the highest showing among its counted taps (0 if none), and how many of that showing are accepts and declines
+-- showing, accepts and declines of a prompt
 unfoldable pub standingAt : Book → ℕ → Standing
 standingAt b p = getD (b .prompts) p blank
 
--- waiting records can only be log records
+-- the log's waiting records: no others wait
 unfoldable pub waiting : Book → List Record
 waiting b = waitingIn (known b) (b .log)
 
@@ -44,7 +49,7 @@ waiting b = waitingIn (known b) (b .log)
 unfoldable pub fresh : ℕ → ℕ → Book
 fresh i n = record { me = i; screens = n; table = replicate n zeros; value = zeros; log = []; counted = []; prompts = afresh [] }
 
--- the tap is in the record; the record's taps are all among some taps
+-- the record has the tap; its taps are all among some taps
 unfoldable pub holds : Tap → Record → Bool
 holds t r = among (tapsIn (r .body)) t
 

@@ -25,6 +25,7 @@ newlyApplied before now rs = keep (λ r. isApplied now r && not (isApplied befor
 unfoldable pub remaining : Stamp → List Stamp → List Record → List Record
 remaining s rows rs = keep (λ r. not (mayGo s rows r)) rs
 
+-- waiting: known, not applied
 unfoldable pub waitingIn : Stamp → List Record → List Record
 waitingIn s rs = keep (isWaiting s) rs
 

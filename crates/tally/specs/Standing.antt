@@ -27,6 +27,7 @@ pub record Standing : Type 0 where
   pub accepts : ℕ
   pub declines : ℕ
 
+-- a prompt's taps, the highest showing of some taps (0 if none), and how many of showing s have answer a
 unfoldable pub ofPrompt : ℕ → List Tap → List Tap
 ofPrompt p ts = keep (λ t. eqb (t .prompt) p) ts
 
@@ -34,7 +35,6 @@ abbrev pub highest : List Tap → ℕ
 highest [] = 0
 highest (t ∷ ts) = max (t .showing) (highest ts)
 
--- how many taps of showing s have answer a
 unfoldable pub howMany : ℕ → ℕ → List Tap → ℕ
 howMany s a ts = length (keep (λ t. eqb (t .showing) s && eqb (t .answer) a) ts)
 
