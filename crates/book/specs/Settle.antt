@@ -1,7 +1,7 @@
 -- Laws: putting a sound book in order keeps it sound, and what it does to the log, the counted taps and the value stamp. Assumes nothing.
 use Prim.Native.Nat.{_≤_, ℕ, _<_, _+_, suc}
 use native.Mathlib.Omega.{arith}
-use mathlib.Core.Path.{ap, _≡_, refl, subst}
+use mathlib.Core.Path.{ap, _≡_, refl, subst, _∙_}
 use mathlib.Core.Logic.{_⊎_, inr, inl}
 use mathlib.Core.Bool.{not}
 use mathlib.Core.List.{List, flatMap, [], _∷_}
@@ -13,9 +13,11 @@ use Rattle.lists.specs.Sorted.{rising-one, Put}
 use Rattle.lists.specs.Tests.{every}
 use Rattle.stamp.specs.Laws.{Fits, Covers, fits, part-total, fits-test}
 use Rattle.stamp.specs.Stamp.{Stamp, stampFits, total, part}
-use Rattle.tally.specs.StandingLaws.{count-put, count-has, afresh-few}
+use Rattle.tally.specs.Limits.{promptCount}
+use Rattle.tally.specs.Standing.{counting, Standing}
+use Rattle.tally.specs.StandingLaws.{count-put, count-has, counting-afresh, afresh-few}
 use Rattle.tally.specs.Tap.{tapsIn, bodyFits, fields}
-use Rattle.tally.specs.TapLaws.{taps-one, taps-body}
+use Rattle.tally.specs.TapLaws.{taps-one, prompt-in, taps-body}
 use Rattle.tally.specs.declared.Tap.{Tap}
 use Rattle.ledger.specs.LimitLaws.{range-parts, room-word}
 use Rattle.ledger.specs.Limits.{logRoom, bookRoom}
@@ -124,6 +126,16 @@ module _ (b : Book) (rows : List Stamp) (new : List Record) (s : Sound b) (y : R
   counted-now r m a t n =
       either (tell (isApplied (known b) r)) (λ o. counted-old t (s .log-counted r (gathered-old r m o) o t n))
       (λ o. count-has (tapsOf (nowApplied b now new)) (b .counted) t (mem-taps (nowApplied b now new) r t (mem-now r m a o) n))
+
+  -- counts kept up tap by tap come to the same counted taps and standings
+  pub settle-counting : counting (tapsOf (nowApplied b (getD rows (b .me) []) new)) (b .counted, b .prompts) ≡ ((settle b rows new) .counted, (settle b rows new) .prompts)
+  unfolding settle nowCounted
+  settle-counting =
+      ap (λ (ps : List Standing). counting (tapsOf (nowApplied b now new)) (b .counted, ps)) (s .follow)
+      ∙ counting-afresh (tapsOf (nowApplied b now new)) (b .counted) (s .counted-order) (λ t m. in-range t (taps-mem (nowApplied b now new) t m))
+    where
+      in-range : (t : Tap) → ((r : Record) × (r ∈ nowApplied b now new) × (t ∈ tapsIn (r .body))) → t .prompt < promptCount
+      in-range t w = prompt-in t (taps-body (w .0 .body) (obeys bodyFits (b .screens) (w .0) (gathered-obeys (w .0) (now-mem (w .0) (w .1) .0)) .body-fits) t (w .2))
 
   -- a gathered record stays in the log, or may go
   pub log-from : (r : Record) → r ∈ (settle b rows new) .log → (r ∈ gathered new (b .log)) × T (not (mayGo (getD rows (b .me) []) rows r))

@@ -24,7 +24,7 @@ use Rattle.ledger.specs.Log.{mergeAll, gapless}
 use Rattle.ledger.specs.LogLaws.{mergeAll-over, mergeAll-under, mergeAll-fits, gapless-from}
 use Rattle.ledger.specs.Message.{Message, messageFits}
 use Rattle.ledger.specs.Record.{Record, isWaiting, isApplied, isKnown, has, stampOf}
-use Rattle.ledger.specs.RecordLaws.{Obeys, stamp-fits, applied-known, obeys, waiting-known, go-applied, waiting-not, covered-applied, applied-label, has-from, le-known}
+use Rattle.ledger.specs.RecordLaws.{Obeys, stamp-fits, applied-known, obeys, waiting-known, go-applied, waiting-not, covered-applied, applied-label, has-from, le-known, known-le}
 use Rattle.book.specs.Answers.{done-answered, answered-done, AskDone}
 use Rattle.book.specs.Book.{known, Book, sound, standingAt, row}
 use Rattle.book.specs.Reply.{Reply, isAnswered}
@@ -36,7 +36,7 @@ use Rattle.house.specs.Demand.{exactlyOne, isUnknown, appliedOf, applied
 use Rattle.house.specs.House.{House, still, Step, after, Later, Run}
 use Rattle.house.proofs.Invariant.{Inv, ScreenOk, knownOf, SentOk}
 use Rattle.house.proofs.Numbers.{run-numbered}
-use Rattle.house.proofs.Runs.{step-moves, step-inv, step-grows, step-rise, gone-known, step-value, run-inv}
+use Rattle.house.proofs.Runs.{gone-known, step-moves, step-inv, step-grows, step-rise, step-value, run-inv}
 
 three : (k c : Bool) → T (exactlyOne (not k) (k && not (k && c)) (k && c))
 three true true = tt
@@ -183,6 +183,11 @@ module _ (n : ℕ) (h : House) (v : Inv n h) (i : ℕ) (u : i < n) where
         stop : (r : Reply) → ((c : Bool × Reply) × (c ∈ gossipStops b m) × T (c .0) × (c .1 ≡ r)) → Answered i m r
         stop r w = subst (λ (y : Reply). Answered i m y) (w .3) (stop-answered (w .0) (w .1) (w .2))
 
+outside-known :
+    (n : ℕ) (h : House) → Inv n h → (i : ℕ) → i < n → (r : Record) → r ∈ h .history → r .number ≤ part (knownOf h i) (r .origin) → ¬ (r ∈ (h .book i) .log)
+    → (k : ℕ) → k < n → r .number ≤ part (knownOf h k) (r .origin)
+outside-known n h v i u r m l gone k y = either (v .screens i u .kept r m l) (λ x. absurd (gone x)) (λ x. gone-known n h v i u r x k y)
+
 leaves-known :
     (n : ℕ) (h h′ : House) → Inv n h → Step n h h′ → (i : ℕ) → i < n → (r : Record) → r ∈ (h .book i) .log → ¬ (r ∈ (h′ .book i) .log)
     → (k : ℕ) → k < n → r .number ≤ part (knownOf h k) (r .origin)
@@ -197,9 +202,7 @@ leaves-known n h h′ v s i u r m gone k l =
     here-known = v .screens i u .book-sound .log-known r m
 
     after-known : r .number ≤ part (knownOf h′ k) (r .origin)
-    after-known =
-        either (v′ .screens i u .kept r (step-grows n s r (v .screens i u .log-taken r m)) (omega (arith, here-known, step-rise n v s i u (r .origin)))) (λ x. absurd (gone x))
-        (λ x. gone-known n h′ v′ i u r x k l)
+    after-known = outside-known n h′ v′ i u r (step-grows n s r (v .screens i u .log-taken r m)) (omega (arith, here-known, step-rise n v s i u (r .origin))) gone k l
 
 -- what was answered at a label is answered at it ever after
 later-inv : (n : ℕ) {h h′ : House} → Inv n h → Later n h h′ → Inv n h′
@@ -237,6 +240,7 @@ third-demand n lo hi h run =
       fresh-counts = λ i u p l. fresh-counts n h v i u p l;
       closed = λ i u r x m y a c. closed n h v i u r x y a c;
       leaves-known = λ h′ s i u r m gone k l. le-known (known (h .book k)) r (leaves-known n h h′ v s i u r m gone k l);
+      outside-known = λ i u r m l gone k y. le-known (known (h .book k)) r (outside-known n h v i u r m (known-le (known (h .book i)) r l) gone k y);
       books-sound = λ i u. at-sound (h .book i) (v .screens i u .book-sound);
       refused-only = λ i u m x. refused-only n h v i u m x;
       numbered = run-numbered n lo hi run .right;

@@ -66,6 +66,10 @@ pub record Demand (n : ℕ) (h : House) : Type 0 where
   pub leaves-known :
       (h′ : House) → Step n h h′ → (i : ℕ) → i < n → (r : Record) → List·Memᴰ r ((h .book i) .log) → ¬ List·Memᴰ r ((h′ .book i) .log)
       → (k : ℕ) → k < n → T (isKnown (known (h .book k)) r)
+  -- .. nor is one dropped on arrival: a taken record that a screen knows and its log does not hold, every screen knows
+  pub outside-known :
+      (i : ℕ) → i < n → (r : Record) → List·Memᴰ r (h .history) → T (isKnown (known (h .book i)) r) → ¬ List·Memᴰ r ((h .book i) .log)
+      → (k : ℕ) → k < n → T (isKnown (known (h .book k)) r)
   -- every book stays sound
   pub books-sound : (i : ℕ) → i < n → T (sound (h .book i))
   -- gossip sent in the house is refused only as old, spent, for want of room, or as returned to its sender
