@@ -8,8 +8,8 @@ use mathlib.Core.List.{_∷_, [], List}
 use mathlib.Core.Option.{Option, none, some}
 use lib.Dec.{T, ltb, ltb→lt, lt→ltb, eqb, eqb→eq}
 use lib.ListN.{getD, drop}
-use Rattle.lists.specs.Facts.{not-not, and-l, and-r, every-place, firstOf-none, all-from, not-intro, _also_, both, not-from, done, either, tell, is-true, is-false, clash}
-use Rattle.lists.specs.MoreFacts.{first-passes, none-first}
+use Rattle.lists.specs.Facts.{not-not, and-l, and-r, every-place, firstOf-none, all-from, not-intro, _also_, both, not-from, done, either, tell, is-true, is-false, clash, same-test}
+use Rattle.lists.specs.MoreFacts.{first-passes, none-first, eq→eqb}
 use Rattle.lists.specs.Tests.{firstOf, every}
 use Rattle.stamp.specs.Laws.{Covers, atMost-parts, parts-atMost}
 use Rattle.stamp.specs.Stamp.{Stamp, stampFits, atMost, part}
@@ -123,6 +123,23 @@ permits-means b p l t =
       yes = answer-permits (standingAt b p) (b .value) (subst (λ (r : Reply). T (permits r)) (w .1) t);
       shown = ap showingOf (w .1) ∙ answer-showing (standingAt b p) (b .value);
     })
+
+-- Permission: yes exactly when the question is answered and the verdict is Accepted.
+permits-answer : (s : Standing) (v : Stamp) → T (eqb (verdictOf s) accepted) → T (permits (answerOf s v))
+unfolding answerOf
+permits-answer s v t = t
+
+pub permits-exactly : (b : Book) (p : ℕ) (l : Stamp) → permits ((ask b p l) .reply) ≡ (isAnswered ((ask b p l) .reply) && eqb (verdictOf (standingAt b p)) accepted)
+permits-exactly b p l = same-test (permits r) (isAnswered r && eqb (verdictOf (standingAt b p)) accepted) (λ t. only (permits-means b p l t)) (λ t. enough (and-l (isAnswered r) (eqb (verdictOf (standingAt b p)) accepted) t) (and-r (isAnswered r) (eqb (verdictOf (standingAt b p)) accepted) t))
+  where
+    r : Reply
+    r = (ask b p l) .reply
+
+    only : Permitted b p l → T (isAnswered r && eqb (verdictOf (standingAt b p)) accepted)
+    only y = both (isAnswered r) (eqb (verdictOf (standingAt b p)) accepted) (done-answered b p l (y .asked)) (eq→eqb (verdictOf (standingAt b p)) accepted (y .yes))
+
+    enough : T (isAnswered r) → T (eqb (verdictOf (standingAt b p)) accepted) → T (permits r)
+    enough a e = subst (λ (x : Reply). T (permits x)) (sym (ask-answers b p l (answered-done b p l a))) (permits-answer (standingAt b p) (b .value) e)
 
 -- the number and the values settle the reply
 reading : List ℕ → Reply
