@@ -19,7 +19,7 @@ use Rattle.tally.specs.declared.Tap.{Tap}
 use Rattle.ledger.specs.Limits.{fewest, most}
 use Rattle.ledger.specs.Record.{Record, stampOf, isApplied}
 use Rattle.ledger.specs.RecordLaws.{obeys}
-use Rattle.book.specs.Answers.{Permitted, permits-means}
+use Rattle.book.specs.AnswerLaws.{Permitted, permits-means}
 use Rattle.book.specs.Book.{Book, known, standingAt}
 use Rattle.book.specs.Reply.{showingOf, permits}
 use Rattle.book.specs.Step.{ask}

@@ -25,13 +25,13 @@ use Rattle.ledger.specs.LogLaws.{mergeAll-over, mergeAll-under, mergeAll-fits, 
 use Rattle.ledger.specs.Message.{Message, messageFits}
 use Rattle.ledger.specs.Record.{Record, isWaiting, isApplied, isKnown, has, stampOf}
 use Rattle.ledger.specs.RecordLaws.{Obeys, stamp-fits, applied-known, obeys, waiting-known, go-applied, waiting-not, covered-applied, applied-label, has-from, le-known, known-le}
-use Rattle.book.specs.Answers.{done-answered, answered-done, AskDone}
+use Rattle.book.specs.AnswerLaws.{done-answered, answered-done, AskDone}
 use Rattle.book.specs.Book.{known, Book, sound, standingAt, row}
 use Rattle.book.specs.Reply.{Reply, isAnswered}
-use Rattle.book.specs.Settle.{mem-taps, taps-mem}
-use Rattle.book.specs.Soundness.{standing-at, row-me, at-sound}
+use Rattle.book.specs.SettleLaws.{mem-taps, taps-mem}
+use Rattle.book.specs.BookLaws.{standing-at, row-me, at-sound}
 use Rattle.book.specs.Step.{tapsOf, gossipStops, gossipStep, Outcome, ask}
-use Rattle.book.specs.Steps.{gossip-cases}
+use Rattle.book.specs.StepLaws.{gossip-cases}
 use Rattle.house.specs.Demand.{exactlyOne, isUnknown, appliedOf, appliedTaps, Answered, is-returned, is-old, is-spent, no-room, is-taken, Demand}
 use Rattle.house.specs.House.{House, still, Step, after, Later, Run}
 use Rattle.house.proofs.Invariant.{Inv, ScreenOk, knownOf, SentOk}

@@ -20,8 +20,8 @@ use Rattle.ledger.specs.Message.{Message, messageFits}
 use Rattle.ledger.specs.Record.{Record, mayGo, isApplied, stampOf, recordFits, place, has}
 use Rattle.ledger.specs.RecordLaws.{applied-known, obeys, has-at, go-applied, applied-mono}
 use Rattle.book.specs.Book.{known, Book, row}
-use Rattle.book.specs.Settle.{Ready, known-now, known-rise, new-gathered, settle-sound, log-from, log-or-gone, go-rise, counted-from, counted-now, counted-old, value-now, value-old, value-least}
-use Rattle.book.specs.Soundness.{Sound}
+use Rattle.book.specs.SettleLaws.{Ready, known-now, known-rise, new-gathered, settle-sound, log-from, log-or-gone, go-rise, counted-from, counted-now, counted-old, value-now, value-old, value-least}
+use Rattle.book.specs.BookLaws.{Sound}
 use Rattle.book.specs.Step.{settle}
 use Rattle.house.specs.House.{House, put}
 

@@ -14,9 +14,9 @@ use Rattle.stamp.specs.Stamp.{part, Stamp}
 use Rattle.ledger.specs.Limits.{fewest, most}
 use Rattle.ledger.specs.Record.{Record}
 use Rattle.book.specs.Book.{known, Book}
-use Rattle.book.specs.Soundness.{fresh-known}
+use Rattle.book.specs.BookLaws.{fresh-known}
 use Rattle.book.specs.Step.{newRecord, settle, tapRows, gossipRows, newOnes}
-use Rattle.book.specs.Steps.{new-number, new-origin, tap-now, nextOf, gossip-now}
+use Rattle.book.specs.StepLaws.{new-number, new-origin, tap-now, nextOf, gossip-now}
 use Rattle.house.specs.Demand.{rightNumbers}
 use Rattle.house.specs.House.{House, afterSend, put, onward, Run, openHouse, opened}
 use Rattle.house.proofs.Invariant.{knownOf, Inv, known-either}

@@ -17,13 +17,13 @@ use Rattle.ledger.specs.Limits.{fewest, most}
 use Rattle.ledger.specs.Message.{Message}
 use Rattle.ledger.specs.Record.{Record, stampOf, mayGo}
 use Rattle.ledger.specs.RecordLaws.{everywhere-at, go-everywhere}
-use Rattle.book.specs.Answers.{ask-keeps}
+use Rattle.book.specs.AnswerLaws.{ask-keeps}
 use Rattle.book.specs.Book.{fresh, known, row, Book}
 use Rattle.book.specs.Reply.{taken, Reply, isTaken}
-use Rattle.book.specs.Settle.{value-old}
-use Rattle.book.specs.Soundness.{fresh-sound, fresh-known, fresh-row, send-fits}
+use Rattle.book.specs.SettleLaws.{value-old}
+use Rattle.book.specs.BookLaws.{fresh-sound, fresh-known, fresh-row, send-fits}
 use Rattle.book.specs.Step.{tapStep, Outcome, newRecord, settle, tapRows, send, gossipStep, gossipRows, newOnes}
-use Rattle.book.specs.Steps.{tap-out, gossip-out, TapDone, tap-ready, new-origin, tap-now, tap-row, GossipDone, gossip-ready, new-ones, gossip-now, gossip-row, tap-cases, gossip-cases}
+use Rattle.book.specs.StepLaws.{tap-out, gossip-out, TapDone, tap-ready, new-origin, tap-now, tap-row, GossipDone, gossip-ready, new-ones, gossip-now, gossip-row, tap-cases, gossip-cases}
 use Rattle.house.specs.House.{openHouse, House, put, grown, tap, Step, afterTap, question, afterQuestion, afterSend, afterGossip, onward, sends, arrives, Run, opened}
 use Rattle.house.proofs.Invariant.{ScreenOk, Inv, put-either, Onward, knownOf, SentOk, screen-mono, advance, known-grows}
 

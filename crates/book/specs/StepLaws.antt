@@ -28,8 +28,8 @@ use Rattle.ledger.specs.Record.{stampOf, Record, place, recordFits, recordRules
 use Rattle.ledger.specs.RecordLaws.{has-from, has-at, known-le}
 use Rattle.book.specs.Book.{Book, sound, known, row, fresh}
 use Rattle.book.specs.Reply.{taken, refusal, Reply, isTaken, gossiped}
-use Rattle.book.specs.Settle.{Ready, settle-sound}
-use Rattle.book.specs.Soundness.{Sound, sound-at, me-row, me-in, known-fits, row-me, at-sound, fresh-sound}
+use Rattle.book.specs.SettleLaws.{Ready, settle-sound}
+use Rattle.book.specs.BookLaws.{Sound, sound-at, me-row, me-in, known-fits, row-me, at-sound, fresh-sound}
 use Rattle.book.specs.Step.{Outcome, newRecord, settle, tapRows, tapStops, tapStep, stopOr, newOnes, nowApplied, gossipRows, gossipStops, gossipStep, openStops}
 
 -- Tap: what is seen to when nothing stops it

@@ -26,7 +26,7 @@ use Rattle.ledger.specs.LogLaws.{put-log, same-place, newly-mem, mem-newly, rem
 use Rattle.ledger.specs.Record.{Record, place, recordFits, has, isApplied, mayGo, everywhere, stampOf}
 use Rattle.ledger.specs.RecordLaws.{obeys, applied-known, everywhere-from, everywhere-at, go-from, applied-mono, go-applied, go-everywhere, has-at, has-from, Obeys, stamp-fits, stamp-under}
 use Rattle.book.specs.Book.{Book, row, known, waiting}
-use Rattle.book.specs.Soundness.{Sound, me-in}
+use Rattle.book.specs.BookLaws.{Sound, me-in}
 use Rattle.book.specs.Step.{tapsOf, settle, nowApplied, nowCounted}
 
 taps-few : (rs : List Record) → length (tapsOf rs) ≤ length rs

@@ -17,7 +17,7 @@ use Rattle.tally.specs.Limits.{promptCount}
 use Rattle.tally.specs.Standing.{Standing, verdictOf, accepted}
 use Rattle.book.specs.Book.{Book, standingAt, sound, known}
 use Rattle.book.specs.Reply.{Reply, isAnswered, permits, refusal, verdict, showingOf, taken, already, wait, gossiped, figures}
-use Rattle.book.specs.Soundness.{Sound, sound-at, at-sound}
+use Rattle.book.specs.BookLaws.{Sound, sound-at, at-sound}
 use Rattle.book.specs.Step.{ask, askStops, stopOr, answerOf, Outcome}
 
 -- a question changes no book
