@@ -12,9 +12,10 @@ use lib.Seq.{getD-set-same}
 use Rattle.lists.specs.Facts.{here, not-not, and-l, and-r, every-place, firstOf-none, either, all-from, _also_, done, _∈_, none-in, all-at, tell, clash, not-and, firstOf-some, every-at}
 use Rattle.lists.specs.MoreFacts.{first-passes, set-either, every-set, nor-l}
 use Rattle.lists.specs.Order.{rising}
-use Rattle.lists.specs.Tests.{every, firstOf}
+use Rattle.lists.specs.Tests.{exists, every, firstOf}
 use Rattle.stamp.specs.Laws.{fits, Fits, Covers, part-either, fits-test, fits-replace, part-total, total-next, part-replaced, atMost-parts, part-merge, fits-merge}
 use Rattle.stamp.specs.Stamp.{Stamp, stampFits, part, total, replace, merge, atMost}
+use Rattle.tally.specs.Standing.{among}
 use Rattle.tally.specs.Tap.{tapFits, tapsIn, bodyFits}
 use Rattle.tally.specs.TapLaws.{taps-word}
 use Rattle.tally.specs.WordLaws.{tap-body}
@@ -26,10 +27,10 @@ use Rattle.ledger.specs.LogLaws.{unknowns-mem, unknowns-rising, gapless-at, mem
 use Rattle.ledger.specs.Message.{Message, messageRules, messageFits, inRange}
 use Rattle.ledger.specs.Record.{stampOf, Record, place, recordFits, recordRules, has, isKnown}
 use Rattle.ledger.specs.RecordLaws.{has-from, has-at, known-le}
-use Rattle.book.specs.Book.{Book, sound, known, row, fresh}
+use Rattle.book.specs.Book.{Book, sound, known, holds, row, fresh}
+use Rattle.book.specs.BookLaws.{Sound, sound-at, me-row, me-in, known-fits, row-me, at-sound, fresh-sound}
 use Rattle.book.specs.Reply.{taken, refusal, Reply, isTaken, gossiped}
 use Rattle.book.specs.SettleLaws.{Ready, settle-sound}
-use Rattle.book.specs.BookLaws.{Sound, sound-at, me-row, me-in, known-fits, row-me, at-sound, fresh-sound}
 use Rattle.book.specs.Step.{Outcome, newRecord, settle, tapRows, tapStops, tapStep, stopOr, newOnes, nowApplied, gossipRows, gossipStops, gossipStep, openStops}
 
 -- Tap: what is seen to when nothing stops it
@@ -38,6 +39,8 @@ pub record TapDone (b : Book) (t : Tap) (l : Stamp) : Type 0 where
   pub tap-fits : T (tapFits t)
   pub label-fits : T (stampFits (b .screens) l)
   pub own : part l (b .me) ≤ part (known b) (b .me)
+  pub not-counted : T (not (among (b .counted) t))
+  pub not-logged : T (not (exists (holds t) (b .log)))
   pub book-left : total (known b) < bookRoom
   pub log-left : length (b .log) < logRoom
 
@@ -52,6 +55,8 @@ tap-passed b t l p =
       tap-fits = and-l (tapFits t) (stampFits (b .screens) l) (not-not (tapFits t && stampFits (b .screens) l) (at 1));
       label-fits = and-r (tapFits t) (stampFits (b .screens) l) (not-not (tapFits t && stampFits (b .screens) l) (at 1));
       own = nltb→le (part (known b) (b .me)) (part l (b .me)) (at 2);
+      not-counted = at 3;
+      not-logged = at 4;
       book-left = nleb→lt bookRoom (total (known b)) (at 5);
       log-left = nleb→lt logRoom (length (b .log)) (at 6);
     }

@@ -27,15 +27,16 @@ use Rattle.ledger.specs.Record.{Record, isWaiting, isApplied, isKnown, has, sta
 use Rattle.ledger.specs.RecordLaws.{Obeys, stamp-fits, applied-known, obeys, waiting-known, go-applied, waiting-not, covered-applied, applied-label, has-from, le-known, known-le}
 use Rattle.book.specs.AnswerLaws.{done-answered, answered-done, AskDone}
 use Rattle.book.specs.Book.{known, Book, sound, standingAt, row}
+use Rattle.book.specs.BookLaws.{standing-at, row-me, at-sound}
 use Rattle.book.specs.Reply.{Reply, isAnswered}
 use Rattle.book.specs.SettleLaws.{mem-taps, taps-mem}
-use Rattle.book.specs.BookLaws.{standing-at, row-me, at-sound}
 use Rattle.book.specs.Step.{tapsOf, gossipStops, gossipStep, Outcome, ask}
 use Rattle.book.specs.StepLaws.{gossip-cases}
 use Rattle.house.specs.Demand.{exactlyOne, isUnknown, appliedOf, appliedTaps, Answered, is-returned, is-old, is-spent, no-room, is-taken, Demand}
 use Rattle.house.specs.House.{House, still, Step, after, Later, Run}
 use Rattle.house.proofs.Invariant.{Inv, ScreenOk, knownOf, SentOk}
 use Rattle.house.proofs.Numbers.{run-numbered}
+use Rattle.house.proofs.Once.{run-once}
 use Rattle.house.proofs.Runs.{gone-known, step-moves, step-inv, step-grows, step-rise, step-value, run-inv}
 
 three : (k c : Bool) → T (exactlyOne (not k) (k && not (k && c)) (k && c))
@@ -244,6 +245,7 @@ third-demand n lo hi h run =
       books-sound = λ i u. at-sound (h .book i) (v .screens i u .book-sound);
       refused-only = λ i u m x. refused-only n h v i u m x;
       numbered = run-numbered n lo hi run .right;
+      taken-once = run-once n lo hi run;
       counted-distinct = λ i u. counted-distinct n h v i u;
       value-merged = λ i u. value-merged n h v i u;
       answered-after = λ h′ r i u p q l t y. answered-after n h h′ v r i u p q l t y;

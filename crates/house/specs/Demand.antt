@@ -9,6 +9,7 @@ use Rattle.lists.specs.Tests.{keep}
 use Rattle.stamp.specs.Stamp.{Stamp, atMost, zeros}
 use Rattle.tally.specs.Limits.{promptCount}
 use Rattle.tally.specs.Standing.{distinct, standing}
+use Rattle.tally.specs.Tap.{tapsIn}
 use Rattle.tally.specs.declared.Tap.{Tap}
 use Rattle.ledger.specs.Log.{mergeAll}
 use Rattle.ledger.specs.Message.{Message}
@@ -76,6 +77,10 @@ pub record Demand (n : ℕ) (h : House) : Type 0 where
   pub refused-only : (i : ℕ) → i < n → (m : Message) → List·Memᴰ m (h .sent) → Answered i m ((gossipStep (h .book i) m) .reply)
   -- beside the demand: the history's records are numbered 1, 2, 3 .. at each origin
   pub numbered : T (rightNumbers (h .history))
+  -- beside the demand: no screen takes the same tap twice
+  pub taken-once :
+      (r x : Record) → List·Memᴰ r (h .history) → List·Memᴰ x (h .history) → r .origin ≡ x .origin
+      → (t : Tap) → List·Memᴰ t (tapsIn (r .body)) → List·Memᴰ t (tapsIn (x .body)) → r ≡ x
   -- beside the demand: the counted taps are the distinct taps of applied records
   pub counted-distinct : (i : ℕ) → i < n → (h .book i) .counted ≡ appliedTaps (known (h .book i)) (h .history)
   -- beside the demand: the value stamp is the merge of the stamps of all applied records, zero if none
