@@ -1,36 +1,29 @@
--- The two round trips, over any width.
--- Assumes nothing.
-use mathlib.Core.Path.{_≡_, refl, sym, ap, subst, _∙_}
-use mathlib.Core.List.{List, [], _∷_, _++_, append-assoc, append-nil}
-use Prim.Native.Nat.{ℕ, zero, suc, _+_, _*_, _/_, _%_, _^_, _≤_, _<_}
-use native.Mathlib.Omega.{arith}
+-- Laws of big-endian numbers, over any width: the two round trips, the bounds, and the bytes of a part. Assumes nothing.
+use Prim.Native.Nat.{ℕ, zero, suc, _+_, _*_, _/_, _%_, _^_, _<_}
 use native.Mathlib.Nat.{pow-suc, suc-add, add-suc, zero-add, add-zero}
-use lib.Dec.{T, ltb, eqb, ltb→lt, lt→ltb, eqb→eq, eqb-refl}
-use lib.ListN.{length, take, drop, length-append}
-use Rattle.lists.specs.Facts.{same-test}
-use Rattle.bigendian.specs.Number.{numberFrom, numberOf, bytesOf}
-
--- every element is a byte
-unfoldable pub Bytes : List ℕ → Type 0
-Bytes [] = Unit {0}
-Bytes (x ∷ l) = (x < 256) × Bytes l
+use native.Mathlib.Omega.{arith}
+use mathlib.Core.Path.{_≡_, refl, sym, ap, _∙_}
+use mathlib.Core.List.{List, [], _∷_, _++_, append-assoc, append-nil}
+use lib.ListN.{length, take, drop, getD, length-append}
+use Rattle.lists.specs.Part.{mid}
+use Rattle.bigendian.specs.Number.{numberFrom, numberOf, bytesOf, Bytes}
 
 pub length-bytes : (w n : ℕ) → length (bytesOf w n) ≡ w
 unfolding bytesOf
 length-bytes zero n = refl
 length-bytes (suc w) n = length-append (bytesOf w (n / 256)) (n % 256 ∷ []) ∙ rw (length-bytes w (n / 256)) (omega arith)
 
-numberFrom-append : (acc : ℕ) (xs ys : List ℕ) → numberFrom acc (xs ++ ys) ≡ numberFrom (numberFrom acc xs) ys
+from-append : (acc : ℕ) (xs ys : List ℕ) → numberFrom acc (xs ++ ys) ≡ numberFrom (numberFrom acc xs) ys
 unfolding numberFrom
-numberFrom-append acc [] ys = refl
-numberFrom-append acc (x ∷ xs) ys = numberFrom-append (acc * 256 + x) xs ys
+from-append acc [] ys = refl
+from-append acc (x ∷ xs) ys = from-append (acc * 256 + x) xs ys
 
 pub number-bytes : (w n : ℕ) → n < 256 ^ w → numberOf (bytesOf w n) ≡ n
 unfolding numberFrom bytesOf
 number-bytes zero n h = omega arith
 number-bytes (suc w) n h =
     let l : n / 256 < 256 ^ w = let e = pow-suc 256 w in omega arith in
-    numberFrom-append 0 (bytesOf w (n / 256)) (n % 256 ∷ []) ∙ rw (number-bytes w (n / 256) l) (omega arith)
+    from-append 0 (bytesOf w (n / 256)) (n % 256 ∷ []) ∙ rw (number-bytes w (n / 256) l) (omega arith)
 
 bytes-from : (k acc : ℕ) (l : List ℕ) → Bytes l → bytesOf (k + length l) (numberFrom acc l) ≡ bytesOf k acc ++ l
 unfolding numberFrom bytesOf Bytes
@@ -42,46 +35,53 @@ bytes-from k acc (x ∷ l) h =
 
 pub bytes-number : (l : List ℕ) → Bytes l → bytesOf (length l) (numberOf l) ≡ l
 unfolding bytesOf
-bytes-number l h = rw (zero-add) at (bytes-from 0 0 l h)
+bytes-number l h = rw zero-add at (bytes-from 0 0 l h)
 
-small-from : (k acc : ℕ) (l : List ℕ) → Bytes l → acc < 256 ^ k → numberFrom acc l < 256 ^ (k + length l)
+from-small : (k acc : ℕ) (l : List ℕ) → Bytes l → acc < 256 ^ k → numberFrom acc l < 256 ^ (k + length l)
 unfolding numberFrom Bytes
-small-from k acc [] h a = rw add-zero a
-small-from k acc (x ∷ l) h a =
-    let b : acc * 256 + x < 256 ^ suc k = rw pow-suc (omega (arith, h .0)) in
-    rw (add-suc k (length l), ← suc-add k (length l)) (small-from (suc k) (acc * 256 + x) l (h .1) b)
+from-small k acc [] h p = rw add-zero p
+from-small k acc (x ∷ l) h p =
+    let q : acc * 256 + x < 256 ^ suc k = rw (pow-suc 256 k) (omega arith) in
+    rw (add-suc k (length l), ← suc-add k (length l)) (from-small (suc k) (acc * 256 + x) l (h .1) q)
 
 pub number-small : (l : List ℕ) → Bytes l → numberOf l < 256 ^ length l
-number-small l h = rw zero-add at (small-from 0 0 l h (omega arith))
+number-small l h = rw zero-add at (from-small 0 0 l h (omega arith))
 
-pub bytes-append : (a b : List ℕ) → Bytes a → Bytes b → Bytes (a ++ b)
+-- bytes of bytes
+pub bytes-append : (xs ys : List ℕ) → Bytes xs → Bytes ys → Bytes (xs ++ ys)
 unfolding Bytes
-bytes-append [] b h k = k
-bytes-append (x ∷ a) b h k = (h .0, bytes-append a b (h .1) k)
-
-pub bytes-take : (n : ℕ) (l : List ℕ) → Bytes l → Bytes (take n l)
-unfolding Bytes
-bytes-take zero l h = tt
-bytes-take (suc n) [] h = tt
-bytes-take (suc n) (x ∷ l) h = (h .0, bytes-take n l (h .1))
-
-pub bytes-drop : (n : ℕ) (l : List ℕ) → Bytes l → Bytes (drop n l)
-unfolding Bytes
-bytes-drop zero l h = h
-bytes-drop (suc n) [] h = tt
-bytes-drop (suc n) (x ∷ l) h = bytes-drop n l (h .1)
+bytes-append [] ys h k = k
+bytes-append (x ∷ xs) ys h k = (h .0, bytes-append xs ys (h .1) k)
 
 pub bytes-are : (w n : ℕ) → Bytes (bytesOf w n)
-unfolding Bytes bytesOf
+unfolding bytesOf Bytes
 bytes-are zero n = tt
 bytes-are (suc w) n = bytes-append (bytesOf w (n / 256)) (n % 256 ∷ []) (bytes-are w (n / 256)) (omega arith, tt)
 
--- one byte fewer of a number that fits one byte fewer
-pub width-less : (m k : ℕ) → ltb m (256 ^ suc k) ≡ ltb (m / 256) (256 ^ k)
-width-less m k =
-    same-test (ltb m (256 ^ suc k)) (ltb (m / 256) (256 ^ k)) (λ t. lt→ltb (m / 256) (256 ^ k) (let l = ltb→lt m (256 ^ suc k) t in let e = pow-suc 256 k in omega arith))
-    (λ t. lt→ltb m (256 ^ suc k) (let l = ltb→lt (m / 256) (256 ^ k) t in let e = pow-suc 256 k in omega arith))
+pub bytes-take : (k : ℕ) (l : List ℕ) → Bytes l → Bytes (take k l)
+unfolding Bytes
+bytes-take zero l h = tt
+bytes-take (suc k) [] h = tt
+bytes-take (suc k) (x ∷ l) h = (h .0, bytes-take k l (h .1))
 
-pub width-none : (m : ℕ) → ltb m (256 ^ 0) ≡ eqb m 0
-width-none m =
-    same-test (ltb m 1) (eqb m 0) (λ t. subst (λ (k : ℕ). T (eqb m k)) (omega (arith, ltb→lt m 1 t)) (eqb-refl m)) (λ t. lt→ltb m 1 (omega (arith, eqb→eq m 0 t)))
+pub bytes-drop : (k : ℕ) (l : List ℕ) → Bytes l → Bytes (drop k l)
+unfolding Bytes
+bytes-drop zero l h = h
+bytes-drop (suc k) [] h = tt
+bytes-drop (suc k) (x ∷ l) h = bytes-drop k l (h .1)
+
+pub bytes-mid : (a k : ℕ) (l : List ℕ) → Bytes l → Bytes (mid a k l)
+unfolding mid
+bytes-mid a k l h = bytes-take k (drop a l) (bytes-drop a l h)
+
+-- what is known of a slice of bytes at each place
+pub places-bytes : (l : List ℕ) → ((i : ℕ) → getD l i 0 < 256) → Bytes l
+unfolding Bytes
+places-bytes [] f = tt
+places-bytes (x ∷ l) f = (f 0, places-bytes l (λ i. f (suc i)))
+
+pub bytes-place : (l : List ℕ) → Bytes l → (i : ℕ) → getD l i 0 < 256
+unfolding Bytes
+bytes-place [] h i = omega arith
+bytes-place (x ∷ l) h zero = h .0
+bytes-place (x ∷ l) h (suc i) = bytes-place l (h .1) i

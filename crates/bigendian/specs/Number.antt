@@ -1,7 +1,6 @@
--- Big-endian numbers, over any width.
--- Assumes nothing.
+-- Big-endian numbers as bytes, over any width. Assumes nothing.
+use Prim.Native.Nat.{ℕ, zero, suc, _+_, _*_, _/_, _%_, _<_}
 use mathlib.Core.List.{List, [], _∷_, _++_}
-use Prim.Native.Nat.{ℕ, zero, suc, _+_, _*_, _/_, _%_}
 
 -- the number that the bytes hold after what acc holds already
 unfoldable pub numberFrom : ℕ → List ℕ → ℕ
@@ -15,3 +14,8 @@ numberOf l = numberFrom 0 l
 unfoldable pub bytesOf : ℕ → ℕ → List ℕ
 bytesOf zero n = []
 bytesOf (suc w) n = bytesOf w (n / 256) ++ (n % 256 ∷ [])
+
+-- every element is a byte
+unfoldable pub Bytes : List ℕ → Type 0
+Bytes [] = Unit {0}
+Bytes (x ∷ l) = (x < 256) × Bytes l

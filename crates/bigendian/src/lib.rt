@@ -1,10 +1,13 @@
-// Numbers as bytes, big-endian, of any width up to 8.
+// Big-endian numbers on slices of bytes: one reader and one writer for every width, and a place in a longer slice is a part of it.
 ghost use mathlib.Core.Path.{_≡_};
-ghost use Prim.Native.Nat.{_+_, _≤_, _<_, _^_};
-ghost use lib.ListN.{length};
+ghost use Prim.Native.Nat.{_+_, _^_, _≤_, _<_};
 ghost use lib.Dec.{ltb};
+ghost use lib.ListN.{length};
 ghost use Rattle.lists.specs.Part.{mid, patch};
 ghost use Rattle.bigendian.specs.Number.{numberOf, bytesOf};
+
+// How many values a byte has.
+const BASE: u64 = 256;
 
 pub fn wide(x: u8) -> u64
     ensures { λ r. ⌜ r ≡ x ⌝ }
@@ -15,12 +18,12 @@ pub fn wide(x: u8) -> u64
 // The number that the whole slice holds.
 pub fn number_of(s: &[u8]) -> u64
     requires { ⌜ length (now s) ≤ 8 ⌝ }
-    ensures { λ r. ⌜ r ≡ numberOf (now (s .entry)) ⌝ }
+    ensures { λ r. ⌜ (r ≡ numberOf (now (s .entry))) × (r < 256 ^ length (now (s .entry))) ⌝ }
 {
     let mut n: u64 = 0;
     let mut i = 0;
     while i < s.len() {
-        n = n * 256 + wide(s[i]);
+        n = n * BASE + wide(s[i]);
         i += 1;
     }
     n
@@ -29,7 +32,7 @@ pub fn number_of(s: &[u8]) -> u64
 // The number of w bytes at a place.
 pub fn number_at(s: &[u8], at: usize, w: usize) -> u64
     requires { ⌜ (at + w ≤ length (now s)) × (w ≤ 8) ⌝ }
-    ensures { λ r. ⌜ r ≡ numberOf (mid at w (now (s .entry))) ⌝ }
+    ensures { λ r. ⌜ (r ≡ numberOf (mid at w (now (s .entry)))) × (r < 256 ^ w) ⌝ }
 {
     let e = at + w;
     number_of(&s[at..e])
@@ -43,12 +46,12 @@ pub fn put_number(s: &mut [u8], n: u64)
     let mut i = s.len();
     while 0 < i {
         i -= 1;
-        s[i] = (m % 256) as u8;
-        m /= 256;
+        s[i] = (m % BASE) as u8;
+        m /= BASE;
     }
 }
 
-// n as w bytes at a place; what stands before and after stays.
+// The last w bytes of n at a place; what stands before and after stays.
 pub fn put_number_at(s: &mut [u8], at: usize, w: usize, n: u64)
     requires { ⌜ at + w ≤ length (now s) ⌝ }
     ensures { λ _. ⌜ now (s .exit) ≡ patch at w (now (s .entry)) (bytesOf w n) ⌝ }
@@ -57,15 +60,18 @@ pub fn put_number_at(s: &mut [u8], at: usize, w: usize, n: u64)
     put_number(&mut s[at..e], n);
 }
 
-// Whether n fits w bytes.
+// Whether w bytes hold n: so many divisions leave nothing.
 pub fn fits_width(n: u64, w: usize) -> bool
     ensures { λ r. ⌜ r ≡ ltb n (256 ^ w) ⌝ }
 {
     let mut m = n;
-    let mut i = 0;
-    while i < w {
-        m /= 256;
-        i += 1;
+    let mut i = w;
+    while m != 0 {
+        if i == 0 {
+            return false;
+        }
+        m /= BASE;
+        i -= 1;
     }
-    m == 0
+    true
 }

@@ -10,8 +10,8 @@ use lib.ListN.{length, take, drop, length-append, length-take, length-drop, take
 use lib.Seq.{take-at, drop-at, length-take-le, take-append-le, drop-append-le}
 use Rattle.lists.specs.Facts.{and-l, and-r, both}
 use Rattle.stamp.specs.Stamp.{total}
-use Rattle.bigendian.specs.Number.{numberOf, bytesOf}
-use Rattle.bigendian.specs.Laws.{Bytes, length-bytes, number-bytes, bytes-number, number-small, bytes-take, bytes-drop, bytes-append, bytes-are}
+use Rattle.bigendian.specs.Number.{numberOf, bytesOf, Bytes}
+use Rattle.bigendian.specs.Laws.{length-bytes, number-bytes, bytes-number, number-small, bytes-take, bytes-drop, bytes-append, bytes-are}
 use Rattle.fields.specs.Fields.{readFields, writeFields, fieldsFit}
 
 pub length-read : (ws bytes : List ℕ) → length (readFields ws bytes) ≡ length ws

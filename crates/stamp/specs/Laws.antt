@@ -5,10 +5,10 @@ use native.Mathlib.Nat.{pow-suc, pow-succ', div-div-eq-div-mul, zero-div}
 use mathlib.Core.Path.{_≡_, refl, sym, ap, ap₂, subst, _∙_}
 use mathlib.Core.Logic.{_⊎_, inl, inr, _≢_}
 use mathlib.Core.Bool.{Bool, true, false, cond}
-use mathlib.Core.List.{List, [], _∷_}
+use mathlib.Core.List.{[], _∷_}
 use lib.Dec.{T, leb, ltb, eqb, leb→le, le→leb, ltb→lt, lt→ltb, eqb→eq, eqb-refl}
 use lib.Pow.{pow-mono}
-use lib.ListN.{length, getD, set, drop, replicate, length-replicate}
+use lib.ListN.{length, set, drop, replicate, length-replicate}
 use lib.Seq.{getD-drop, ext-getD}
 use borrow.Author.Tests.{le-ltb}
 use Rattle.stamp.specs.Limits.{parts, word}
@@ -183,21 +183,18 @@ pub merge-idem : (a : Stamp) → merge a a ≡ a
 merge-idem [] = refl
 merge-idem (x ∷ a) = ap₂ _∷_ (omega arith) (merge-idem a)
 
-merge-nil : (a : Stamp) → merge a [] ≡ a
-merge-nil a = merge-comm a []
-
 pub merge-replaced : (a b : Stamp) (k v w : ℕ) → merge (replace a k v) (replace b k w) ≡ replace (merge a b) k (max v w)
 merge-replaced [] [] zero v w = refl
 merge-replaced [] [] (suc k) v w = ap (λ (r : Stamp). 0 ∷ r) (merge-replaced [] [] k v w)
 merge-replaced [] (y ∷ b) zero v w = refl
 merge-replaced [] (y ∷ b) (suc k) v w = ap₂ _∷_ (omega arith) (merge-replaced [] b k v w)
-merge-replaced (x ∷ a) [] zero v w = ap (λ (r : Stamp). max v w ∷ r) (merge-nil a)
-merge-replaced (x ∷ a) [] (suc k) v w = ap₂ _∷_ (omega arith) (merge-replaced a [] k v w ∙ ap (λ (r : Stamp). replace r k (max v w)) (merge-nil a))
+merge-replaced (x ∷ a) [] zero v w = ap (λ (r : Stamp). max v w ∷ r) (merge-comm a [])
+merge-replaced (x ∷ a) [] (suc k) v w = ap₂ _∷_ (omega arith) (merge-replaced a [] k v w ∙ ap (λ (r : Stamp). replace r k (max v w)) (merge-comm a []))
 merge-replaced (x ∷ a) (y ∷ b) zero v w = refl
 merge-replaced (x ∷ a) (y ∷ b) (suc k) v w = ap (λ (r : Stamp). max x y ∷ r) (merge-replaced a b k v w)
 
 -- the bits of what exceeds
-pub over-le : (x y : ℕ) → over x y ≤ 1
+over-le : (x y : ℕ) → over x y ≤ 1
 over-le x y = go (ltb y x)
   where
     go : (c : Bool) → cond c 1 0 ≤ 1
@@ -295,3 +292,11 @@ fits-zeros n =
       words = λ k. omega (arith, zeros-part k, word-pos);
       past = λ k h. zeros-part k;
     }
+
+-- the zero stamp is at most every other
+pub at-most-zeros : (s : Stamp) → T (atMost zeros s)
+at-most-zeros s = parts-atMost zeros s (λ k. omega (arith, zeros-part k))
+
+pub merge-zeros : (s : Stamp) → length s ≡ parts → merge zeros s ≡ s
+unfolding zeros
+merge-zeros s e = merge-covered zeros s (length-replicate parts 0 ∙ sym e) (at-most-zeros s)

@@ -8,8 +8,10 @@ ghost use Rattle.stamp.specs.Limits.{parts, word};
 ghost use Rattle.stamp.specs.Stamp.{atMost, merge, replace, total, excess, over, stampFits};
 ghost use Rattle.stamp.specs.Parts.{partsAt, listOf};
 
-// How many parts a stamp has, and what each part stands below.
+// How many parts a stamp has.
 pub const PARTS: usize = 8;
+
+// What each part stands below: 32 bits hold it.
 pub const WORD: u64 = 4294967296;
 
 // A stamp as a value.
@@ -157,7 +159,7 @@ pub fn parts_at(s: &[u64], at: usize) -> Parts
     }
 }
 
-pub fn list_of(p: Parts) -> [u64; 8]
+pub fn list_of(p: Parts) -> [u64; PARTS]
     ensures { λ r. ⌜ r ≡ listOf p ⌝ }
 {
     [p.p0, p.p1, p.p2, p.p3, p.p4, p.p5, p.p6, p.p7]

@@ -1,36 +1,43 @@
--- `bigendian::fits_width` meets its contract: what is left of the number fits what is left of the width.
--- Assumes nothing.
-use mathlib.Core.Path.{_≡_, sym, _∙_}
-use Prim.Native.Nat.{suc, _+_, _-_, _^_, _≤_}
-use native.Mathlib.Nat.{sub-zero}
+-- `bigendian::fits_width` meets its contract. The invariant: i bytes hold m exactly when w bytes hold n. Assumes nothing.
+use Prim.Native.Nat.{_^_}
 use native.Mathlib.Omega.{arith}
+use mathlib.Core.Path.{_≡_, sym, _∙_}
 use lib.Dec.{ltb}
 use borrow.Author.Needs.{needs}
-use Rattle.bigendian.specs.Laws.{width-less, width-none}
+use Rattle.bigendian.proofs.Step.{width-more, width-none, width-end}
 use Rattle.bigendian.proofs.fits_width.Statement.{statement}
 use Rattle.bigendian.proofs.fits_width.Tie as tie
 
 abbrev Inv-loop : tie.InvT-loop
-Inv-loop n w m₀ i₀ m i = (i ≤ w) × (ltb n (256 ^ w) ≡ ltb m (256 ^ (w - i)))
+Inv-loop n w m₀ i₀ m i = ltb n (256 ^ w) ≡ ltb m (256 ^ i)
 
 abbrev μ-loop : tie.MeasureT-loop
-μ-loop n w m₀ i₀ m i = w - i
-
-loop-holds : tie.Need-loop-holds Inv-loop μ-loop
-loop-holds c = (omega arith, rw sub-zero)
-
-loop-again : tie.Need-loop-again Inv-loop μ-loop
-loop-again c =
-    let l = c .before .loop in
-    let w = c .before .before .args .w in
-    let e : w - l .i ≡ suc (w - (l .i + 1)) = omega arith in
-    (omega arith, l .inv .1 ∙ rw e (width-less (l .m) (w - (l .i + 1))))
+μ-loop n w m₀ i₀ m i = m
 
 returns : tie.Need-returns Inv-loop μ-loop
 returns c =
-    let l = c .before .loop in
-    let e : c .before .before .args .w - l .i ≡ 0 = omega arith in
-    sym (l .inv .1 ∙ rw e (width-none (l .m)))
+    let l = c .before .before in
+    sym (l .loop .inv ∙ rw (c .if1 .taken) (width-none (l .loop .m) (omega arith)))
+
+loop-again : tie.Need-loop-again Inv-loop μ-loop
+loop-again c =
+    let l = c .before .before in
+    l .loop .inv ∙ width-more (l .loop .m) (l .loop .i) (omega arith)
+
+returns-2 : tie.Need-returns-2 Inv-loop μ-loop
+returns-2 c =
+    let l = c .before in
+    sym (l .loop .inv ∙ rw (c .loop-test .left) (width-end (l .loop .i)))
 
 pub fits-width-spec : {M : Type 1} → statement M
-fits-width-spec = tie.close (tie.spec Inv-loop μ-loop loop-holds (λ c. search needs) (λ c. search needs) loop-again returns)
+fits-width-spec =
+    tie.close
+    (tie.spec
+    Inv-loop
+    μ-loop
+    (λ c. search needs)
+    returns
+    (λ c. search needs)
+    (λ c. search needs)
+    loop-again
+    returns-2)

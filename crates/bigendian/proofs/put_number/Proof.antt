@@ -1,9 +1,8 @@
--- `bigendian::put_number` meets its contract.
--- Assumes nothing.
-use mathlib.Core.Path.{_≡_, refl, sym, _∙_}
-use mathlib.Core.List.{_++_, append-nil}
+-- `bigendian::put_number` meets its contract. The invariant, from the back: the bytes still to write, and what is written. Assumes nothing.
 use Prim.Native.Nat.{_≤_}
 use native.Mathlib.Omega.{arith}
+use mathlib.Core.Path.{_≡_, refl, sym, _∙_}
+use mathlib.Core.List.{_++_, append-nil}
 use lib.Seq.{drop-length}
 use lib.ListN.{length, drop, length-set}
 use borrow.Author.Needs.{needs}

@@ -45,7 +45,7 @@ loop-again c =
       omega arith,
       omega (arith, total-rest ws (l .i) h),
       narrow-next ws (l .i) h (l .inv .3),
-      l .inv .4 ∙ read-more ws (l .i) h (l .v) (s .bytes .now) (l .at) _ (omega arith) (c .number-at .ensures),
+      l .inv .4 ∙ read-more ws (l .i) h (l .v) (s .bytes .now) (l .at) _ (omega arith) (c .number-at .ensures .0),
     )
 
 returns : tie.Need-returns Inv-loop μ-loop
