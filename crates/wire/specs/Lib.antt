@@ -2,3 +2,4 @@ pub mod Said
 pub mod Kinds
 pub mod Read
 pub mod Write
+pub mod Returns

@@ -1,75 +1,65 @@
-use borrow.Author.Needs.{needs}
+-- `wire::body_of` meets its contract. Assumes nothing.
+use borrow.Author.Tests.{ne-eqb}
+use Rattle.wire.specs.Kinds.{bodyOf}
 use Rattle.wire.proofs.body_of.Statement.{statement}
 use Rattle.wire.proofs.body_of.Tie as tie
-use Rattle.wire.proofs.body_of.Reads as reads
-use Rattle.wire.proofs.body_of.Lts as lts
 
--- src/lib.rt:54:1
 returns : tie.Need-returns
-returns c = search needs
+unfolding bodyOf
+returns c = rw (c .match .keys1)
 
--- src/lib.rt:54:1
 returns-2 : tie.Need-returns-2
-returns-2 c = search needs
+unfolding bodyOf
+returns-2 c = rw (c .match .keys2)
 
--- src/lib.rt:54:1
 returns-3 : tie.Need-returns-3
-returns-3 c = search needs
+unfolding bodyOf
+returns-3 c = rw (c .match .keys3)
 
--- src/lib.rt:54:1
 returns-4 : tie.Need-returns-4
-returns-4 c = search needs
+unfolding bodyOf
+returns-4 c = rw (c .match .keys4)
 
--- src/lib.rt:54:1
 returns-5 : tie.Need-returns-5
-returns-5 c = search needs
+unfolding bodyOf
+returns-5 c = rw (c .match .keys5)
 
--- src/lib.rt:54:1
 returns-6 : tie.Need-returns-6
-returns-6 c = search needs
+unfolding bodyOf
+returns-6 c = rw (c .match .keys6)
 
--- src/lib.rt:54:1
 returns-7 : tie.Need-returns-7
-returns-7 c = search needs
+unfolding bodyOf
+returns-7 c = rw (c .match .keys7)
 
--- src/lib.rt:54:1
 returns-8 : tie.Need-returns-8
-returns-8 c = search needs
+unfolding bodyOf
+returns-8 c = rw (c .match .keys8)
 
--- src/lib.rt:54:1
 returns-9 : tie.Need-returns-9
-returns-9 c = search needs
+unfolding bodyOf
+returns-9 c = rw (c .match .keys9)
 
--- src/lib.rt:54:1
 returns-10 : tie.Need-returns-10
-returns-10 c = search needs
+unfolding bodyOf
+returns-10 c = rw (c .match .keys10)
 
--- src/lib.rt:54:1
 returns-11 : tie.Need-returns-11
-returns-11 c = search needs
+unfolding bodyOf
+returns-11 c = rw (c .match .keys11)
 
--- src/lib.rt:54:1
 returns-12 : tie.Need-returns-12
-returns-12 c = search needs
+unfolding bodyOf
+returns-12 c = rw (c .match .keys12)
 
--- src/lib.rt:54:1
+-- no kind's number: each test fails, the last arm's first
 returns-13 : tie.Need-returns-13
-returns-13 c = search needs
+unfolding bodyOf
+returns-13 c =
+    let r = c .match .rest in
+    simp (ne-eqb _ _ (r .1), ne-eqb _ _ (r .0 .1), ne-eqb _ _ (r .0 .0 .1), ne-eqb _ _ (r .0 .0 .0 .1), ne-eqb _ _ (r .0 .0 .0 .0 .1), ne-eqb _ _ (r .0 .0 .0 .0 .0 .1), ne-eqb _ _ (r .0 .0 .0 .0 .0 .0 .1), ne-eqb _ _ (r .0 .0 .0 .0 .0 .0 .0 .1), ne-eqb _ _ (r .0 .0 .0 .0 .0 .0 .0 .0 .1), ne-eqb _ _ (r .0 .0 .0 .0 .0 .0 .0 .0 .0 .1), ne-eqb _ _ (r .0 .0 .0 .0 .0 .0 .0 .0 .0 .0 .1), ne-eqb _ _ (r .0 .0 .0 .0 .0 .0 .0 .0 .0 .0 .0 .1))
 
 pub body-of-spec : {M : Type 1} → statement M
 body-of-spec =
     tie.close
-    (tie.spec
-    returns
-    returns-2
-    returns-3
-    returns-4
-    returns-5
-    returns-6
-    returns-7
-    returns-8
-    returns-9
-    returns-10
-    returns-11
-    returns-12
-    returns-13)
+    (tie.spec returns returns-2 returns-3 returns-4 returns-5 returns-6 returns-7 returns-8 returns-9 returns-10 returns-11 returns-12 returns-13)
