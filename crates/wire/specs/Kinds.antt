@@ -1,10 +1,9 @@
 -- The table of kinds: each kind's number, the widths of its fields, and its field rules. Assumes nothing.
 use Prim.Native.Nat.{ℕ, _+_}
-use mathlib.Core.Bool.{Bool, true, false, _&&_, cond}
+use mathlib.Core.Bool.{Bool, true, false, _&&_, _||_, cond}
 use mathlib.Core.List.{List, [], _∷_, _++_}
 use lib.Dec.{eqb, leb, ltb}
 use lib.ListN.{length, getD}
-use Rattle.lists.specs.Tests.{exists}
 use Rattle.stamp.specs.Stamp.{Stamp, total, stampFits}
 use Rattle.stamp.specs.Parts.{partsAt, listOf}
 use Rattle.tally.specs.declared.Tap.{Tap}
@@ -111,11 +110,8 @@ unfoldable pub waitKind : Kind
 waitKind = record { number = 8; body = 1 ∷ []; rules = λ l. true; said = λ l. said.Wait (getD l 1 0) }
 
 -- the refusals of the table: ten is not used
-abbrev pub refusals : List ℕ
-refusals = 1 ∷ 2 ∷ 3 ∷ 4 ∷ 5 ∷ 6 ∷ 7 ∷ 8 ∷ 9 ∷ 11 ∷ 12 ∷ []
-
 unfoldable pub inTable : ℕ → Bool
-inTable k = exists (eqb k) refusals
+inTable k = leb 1 k && leb k 9 || leb 11 k && leb k 12
 
 unfoldable pub refusalKind : Kind
 refusalKind = record { number = 9; body = 1 ∷ []; rules = λ l. inTable (getD l 1 0); said = λ l. said.Refusal (getD l 1 0) }

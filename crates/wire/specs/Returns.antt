@@ -1,9 +1,9 @@
 -- What a reader's and a writer's tests have settled where it returns, for every kind. Assumes nothing.
 use Prim.Native.Nat.{ℕ, suc}
 use mathlib.Core.Path.{_≡_, refl, sym, ap, subst, _∙_}
-use mathlib.Core.Bool.{Bool, true, false, _&&_, and-true, and-false}
+use mathlib.Core.Bool.{Bool, true, false, not, _&&_, and-true, and-false}
 use mathlib.Core.List.{List, [], _∷_}
-use borrow.Author.Tests.{eq-eqb, eqb-true}
+use borrow.Author.Tests.{eq-eqb, eqb-true, not-true, not-false}
 use lib.Dec.{T, ltb, eqb}
 use lib.ListN.{length, getD}
 use Prim.Native.Nat.{_^_, _+_}
@@ -17,6 +17,13 @@ use Rattle.wire.specs.declared.Body.the-variants.{Long}
 use Rattle.wire.specs.Kinds.{Kind, widths, bodyOf, isLong, shaped}
 use Rattle.wire.specs.Read.{lineOf, readable, readAs}
 use Rattle.wire.specs.Write.{Output, Meets, refuse, putLine, writable, written, writeAs}
+
+-- what a test of a call's answer tells of what the call promises
+pub failed : {answer t : Bool} → answer ≡ t → not answer ≡ true → t ≡ false
+failed {answer} e h = sym e ∙ not-true answer h
+
+pub passed : {answer t : Bool} → answer ≡ t → not answer ≡ false → t ≡ true
+passed {answer} e h = sym e ∙ not-false answer h
 
 -- bytes of a kind have its length
 pub shaped-long : (k n : ℕ) (bytes : List ℕ) → bodyOf k ≡ Long n → shaped k bytes ≡ true → length bytes ≡ 1 + n
@@ -39,13 +46,15 @@ module _ (k : Kind) (bytes : List ℕ) where
   unfolding readAs readable
   not-shaped e = rw e
 
-  pub not-kept : k .rules (lineOf k bytes) ≡ false → shaped (k .number) bytes ≡ true → said.Unreadable 1 ≡ readAs k bytes
-  unfolding readAs readable
-  not-kept r e = rw (e, r)
+  -- past the shape, with the line that was read
+  module _ (line : List ℕ) (shape : shaped (k .number) bytes ≡ true) (same : line ≡ lineOf k bytes) where
+    pub not-kept : k .rules line ≡ false → said.Unreadable 1 ≡ readAs k bytes
+    unfolding readAs readable
+    not-kept r = rw (shape, ← same, r)
 
-  pub kept : k .rules (lineOf k bytes) ≡ true → shaped (k .number) bytes ≡ true → k .said (lineOf k bytes) ≡ readAs k bytes
-  unfolding readAs readable
-  kept r e = rw (e, r)
+    pub kept : k .rules line ≡ true → k .said line ≡ readAs k bytes
+    unfolding readAs readable
+    kept r = rw (shape, ← same, r)
 
 pub meets : {o : Output} (answer : Written) (bytes : List ℕ) → o ≡ record { answer = answer; bytes = bytes } → Meets o answer bytes
 meets answer bytes e = record { answers = ap (λ (o : Output). o .answer) (sym e); leaves = ap (λ (o : Output). o .bytes) (sym e) }
