@@ -3,3 +3,4 @@ pub mod Kinds
 pub mod Read
 pub mod Write
 pub mod Returns
+pub mod Laws

@@ -1,6 +1,6 @@
 -- What a reader's and a writer's tests have settled where it returns, for every kind. Assumes nothing.
 use Prim.Native.Nat.{ℕ, suc}
-use mathlib.Core.Path.{_≡_, refl, sym, ap, subst, _∙_}
+use mathlib.Core.Path.{_≡_, refl, sym, ap, _∙_}
 use mathlib.Core.Bool.{Bool, true, false, not, _&&_, and-true, and-false}
 use mathlib.Core.List.{List, [], _∷_}
 use borrow.Author.Tests.{eq-eqb, eqb-true, not-true, not-false}
@@ -9,14 +9,13 @@ use lib.ListN.{length, getD}
 use Prim.Native.Nat.{_^_, _+_}
 use Rattle.lists.specs.Facts.{and-r}
 use Rattle.fields.specs.Fields.{fieldsFit, putFields}
-use Rattle.wire.specs.declared.Said.{Said}
 use Rattle.wire.specs.declared.Said.the-variants as said
 use Rattle.wire.specs.declared.Written.{Written}
-use Rattle.wire.specs.declared.Written.the-variants.{Wrote, Refused}
+use Rattle.wire.specs.declared.Written.the-variants.{Refused}
 use Rattle.wire.specs.declared.Body.the-variants.{Long}
 use Rattle.wire.specs.Kinds.{Kind, widths, bodyOf, isLong, shaped}
 use Rattle.wire.specs.Read.{lineOf, readable, readAs}
-use Rattle.wire.specs.Write.{Output, Meets, refuse, putLine, writable, written, writeAs}
+use Rattle.wire.specs.Write.{Output, Meets, putLine, writable, written, writeAs}
 
 -- what a test of a call's answer tells of what the call promises
 pub failed : {answer t : Bool} → answer ≡ t → not answer ≡ true → t ≡ false

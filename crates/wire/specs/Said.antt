@@ -1,9 +1,7 @@
 -- What a message says: this paper's number of each kind, and its values in order. Assumes nothing.
-use Prim.Native.Nat.{ℕ, _+_}
+use Prim.Native.Nat.{ℕ}
 use mathlib.Core.List.{List, [], _∷_, _++_}
-use lib.ListN.{getD}
-use Rattle.stamp.specs.Parts.{partsAt, listOf}
-use Rattle.tally.specs.declared.Tap.{Tap}
+use Rattle.stamp.specs.Parts.{listOf}
 use Rattle.tally.specs.Tap.{fields}
 use Rattle.wire.specs.declared.Said.{Said}
 use Rattle.wire.specs.declared.Said.the-variants as said
