@@ -1,14 +1,5 @@
 // Replies: the six messages that a screen answers with, each with its reader and its writer.
 use fields::read_fields;
-ghost use lib.Dec.{leb};
-ghost use mathlib.Core.List.{_∷_};
-ghost use mathlib.Core.Path.{_≡_};
-ghost use Rattle.stamp.specs.Parts.{listOf};
-ghost use Rattle.wire.specs.declared.Said.the-variants as said;
-ghost use Rattle.wire.specs.Kinds.{stampBody, takenKind, alreadyKind, verdictKind, waitKind, refusalKind, gossipTakenKind, inTable};
-ghost use Rattle.wire.specs.Read.{readAs};
-ghost use Rattle.wire.specs.Said.{figures};
-ghost use Rattle.wire.specs.Write.{Meets, putLine, writeAs};
 use stamp::Parts;
 use stamp::parts_at;
 use wire::ALREADY;
@@ -27,6 +18,15 @@ use wire::WAIT_BODY;
 use wire::Written;
 use wire::is_kind;
 use wire::put_line;
+ghost use mathlib.Core.Path.{_≡_};
+ghost use mathlib.Core.List.{_∷_};
+ghost use lib.Dec.{leb};
+ghost use Rattle.stamp.specs.Parts.{listOf};
+ghost use Rattle.wire.specs.Kinds.{stampBody, takenKind, alreadyKind, verdictKind, waitKind, refusalKind, gossipTakenKind, inTable};
+ghost use Rattle.wire.specs.Read.{readAs};
+ghost use Rattle.wire.specs.Said.{figures};
+ghost use Rattle.wire.specs.Write.{Meets, putLine, writeAs};
+ghost use Rattle.wire.specs.declared.Said.the-variants as said;
 
 // A line holds the kind, then the fields; each message is as long as its widths together.
 const TAKEN_LINE: usize = 9;

@@ -1,20 +1,5 @@
 // Requests: what a screen is sent, each kind with its reader and its writer. A gossip message is a head and then records.
 use fields::read_fields;
-ghost use lib.Dec.{leb, ltb};
-ghost use lib.ListN.{length};
-ghost use mathlib.Core.List.{_∷_, []};
-ghost use mathlib.Core.Path.{_≡_};
-ghost use Prim.Native.Nat.{_+_, _≤_};
-ghost use Rattle.ledger.specs.Limits.{logRoom};
-ghost use Rattle.ledger.specs.Message.{inRange};
-ghost use Rattle.lists.specs.Tests.{all};
-ghost use Rattle.stamp.specs.Parts.{listOf};
-ghost use Rattle.stamp.specs.Stamp.{part, stampFits};
-ghost use Rattle.wire.specs.declared.Said.the-variants as said;
-ghost use Rattle.wire.specs.Kinds.{tapAt, headKind, recordKind, tapKind, questionKind, openKind, sendKind};
-ghost use Rattle.wire.specs.Read.{readAs};
-ghost use Rattle.wire.specs.Said.{figures};
-ghost use Rattle.wire.specs.Write.{Meets, writeAs};
 use stamp::Parts;
 use stamp::part_of;
 use stamp::parts_at;
@@ -39,6 +24,21 @@ use wire::TAP_BODY;
 use wire::Written;
 use wire::is_kind;
 use wire::put_line;
+ghost use mathlib.Core.Path.{_≡_};
+ghost use mathlib.Core.List.{_∷_, []};
+ghost use Prim.Native.Nat.{_+_, _≤_};
+ghost use lib.Dec.{leb, ltb};
+ghost use lib.ListN.{length};
+ghost use Rattle.lists.specs.Tests.{all};
+ghost use Rattle.stamp.specs.Parts.{listOf};
+ghost use Rattle.stamp.specs.Stamp.{part, stampFits};
+ghost use Rattle.ledger.specs.Limits.{logRoom};
+ghost use Rattle.ledger.specs.Message.{inRange};
+ghost use Rattle.wire.specs.Kinds.{tapAt, headKind, recordKind, tapKind, questionKind, openKind, sendKind};
+ghost use Rattle.wire.specs.Read.{readAs};
+ghost use Rattle.wire.specs.Said.{figures};
+ghost use Rattle.wire.specs.Write.{Meets, writeAs};
+ghost use Rattle.wire.specs.declared.Said.the-variants as said;
 
 // A line holds the kind, then the fields; each message is as long as its widths together.
 const HEAD_LINE: usize = 12;
@@ -117,6 +117,7 @@ fn tap_at(line: &[u64], at: usize) -> Tap
     }
 }
 
+// N from 2 to 8, and the screen's number below it.
 fn in_range(i: u64, n: u64) -> bool
     ensures { λ r. ⌜ r ≡ inRange i n ⌝ }
 {
@@ -135,6 +136,7 @@ fn count_fits(count: u64) -> bool
     }
 }
 
+// The field rules of each kind, for its reader and its writer alike.
 fn head_fits(sender: u64, screens: u64, count: u64, stamp: Parts) -> bool
     ensures { λ r. ⌜ r ≡ headKind .rules (figures (said.Head sender screens count stamp)) ⌝ }
 {
@@ -222,14 +224,14 @@ fn record_fits(origin: u64, number: u64, label: Parts, tap: Tap, n: usize, m: Pa
 }
 
 // A record of a message whose head has n screens and stamp m.
-pub fn read_record(msg: &[u8], n: usize, m: Parts) -> Said
-    ensures { λ r. ⌜ r ≡ readAs (recordKind n (listOf m)) (now (msg .entry)) ⌝ }
+pub fn read_record(part: &[u8], n: usize, m: Parts) -> Said
+    ensures { λ r. ⌜ r ≡ readAs (recordKind n (listOf m)) (now (part .entry)) ⌝ }
 {
-    if !is_kind(msg, RECORD) {
+    if !is_kind(part, RECORD) {
         return Said::Unreadable(BAD);
     }
     let mut line = [0u64; RECORD_LINE];
-    read_fields(&mut line, &RECORD_WIDTHS, msg);
+    read_fields(&mut line, &RECORD_WIDTHS, part);
     let origin = line[FIRST];
     let number = line[SECOND];
     let label = parts_at(&line, RECORD_LABEL);

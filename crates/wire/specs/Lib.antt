@@ -4,3 +4,4 @@ pub mod Read
 pub mod Write
 pub mod Returns
 pub mod Laws
+pub mod Case

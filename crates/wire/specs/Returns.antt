@@ -1,12 +1,11 @@
 -- What a reader's and a writer's tests have settled where it returns, for every kind. Assumes nothing.
-use Prim.Native.Nat.{ℕ, suc}
+use Prim.Native.Nat.{ℕ, suc, _+_, _^_}
 use mathlib.Core.Path.{_≡_, refl, sym, ap, _∙_}
 use mathlib.Core.Bool.{Bool, true, false, not, _&&_, and-true, and-false}
 use mathlib.Core.List.{List, [], _∷_}
 use borrow.Author.Tests.{eq-eqb, eqb-true, not-true, not-false}
 use lib.Dec.{T, ltb, eqb}
 use lib.ListN.{length, getD}
-use Prim.Native.Nat.{_^_, _+_}
 use Rattle.lists.specs.Facts.{and-r}
 use Rattle.fields.specs.Fields.{fieldsFit, putFields}
 use Rattle.wire.specs.declared.Said.the-variants as said

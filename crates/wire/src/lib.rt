@@ -1,12 +1,12 @@
 // The wire's kinds of message: what each says, how long it is, and the two steps that every reader and writer takes.
 use fields::fields_fit;
 use fields::put_fields;
+use stamp::Parts;
+use tally::Tap;
 ghost use mathlib.Core.Path.{_≡_};
 ghost use Rattle.stamp.specs.Stamp.{total};
 ghost use Rattle.wire.specs.Kinds.{bodyOf, shaped};
 ghost use Rattle.wire.specs.Write.{Meets, putLine};
-use stamp::Parts;
-use tally::Tap;
 
 // What a message says, in the order of the kinds; or that the bytes are refused.
 pub enum Said {

@@ -10,7 +10,7 @@ use borrow.Author.Needs.{needs}
 use Rattle.requests.proofs.read_record.Statement.{statement}
 use Rattle.requests.proofs.read_record.Tie as tie
 
-shape : (c : tie.Else1) → shaped 2 (c .before .before .before .args .msg .now) ≡ true
+shape : (c : tie.Else1) → shaped 2 (c .before .before .before .args .part .now) ≡ true
 shape c = passed (c .before .is-kind .ensures) (c .if1 .left)
 
 returns : tie.Need-returns
@@ -19,7 +19,7 @@ returns c = not-shaped (recordKind _ _) _ (failed (c .before .is-kind .ensures) 
 
 read-fields-requires : tie.Need-read-fields-requires
 unfolding bodyOf
-read-fields-requires c κs = let e = c .before .before in (refl, (omega (arith, shaped-long 2 46 (e .before .before .before .args .msg .now) refl (shape e)), tt))
+read-fields-requires c κs = let e = c .before .before in (refl, (omega (arith, shaped-long 2 46 (e .before .before .before .args .part .now) refl (shape e)), tt))
 
 returns-2 : tie.Need-returns-2
 unfolding recordKind lineOf partsAt listOf
