@@ -78,9 +78,9 @@ const CONTESTED: u64 = 3;
 // The refusals of document 01's table: ten is not used.
 const FIRST_REFUSAL: u64 = 1;
 
-const LAST_OF_STEP: u64 = 9;
+const BEFORE_TEN: u64 = 9;
 
-const FIRST_OF_LENT: u64 = 11;
+const AFTER_TEN: u64 = 11;
 
 const LAST_REFUSAL: u64 = 12;
 
@@ -210,7 +210,7 @@ fn in_table(number: u64) -> bool
     ensures { λ r. ⌜ r ≡ inTable number ⌝ }
 {
     match number {
-        FIRST_REFUSAL..=LAST_OF_STEP | FIRST_OF_LENT..=LAST_REFUSAL => true,
+        FIRST_REFUSAL..=BEFORE_TEN | AFTER_TEN..=LAST_REFUSAL => true,
         _ => false,
     }
 }
