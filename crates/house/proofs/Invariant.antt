@@ -9,7 +9,6 @@ use lib.Dec.{T, eqb, eqb→eq, ltb, ltb→lt, nltb→le}
 use lib.ListN.{getD}
 use Rattle.lists.specs.Facts.{_∈_, either, is-true, is-false, not-from, tell}
 use Rattle.lists.specs.MoreFacts.{same-or-not, eq→eqb}
-use Rattle.lists.specs.Rows.{rows}
 use Rattle.lists.specs.Sorted.{rising-one}
 use Rattle.stamp.specs.Laws.{Covers}
 use Rattle.stamp.specs.Stamp.{Stamp, part}
@@ -20,10 +19,10 @@ use Rattle.ledger.specs.LogLaws.{put-log}
 use Rattle.ledger.specs.Message.{Message, messageFits}
 use Rattle.ledger.specs.Record.{Record, mayGo, isApplied, stampOf, recordFits, place, has}
 use Rattle.ledger.specs.RecordLaws.{applied-known, obeys, has-at, go-applied, applied-mono}
-use Rattle.book.specs.Book.{known, Book, row}
-use Rattle.book.specs.Settle.{Ready, known-now, known-rise, new-gathered, settle-sound, log-from, log-or-gone, go-rise, counted-from, counted-now, counted-old, value-now, value-old, value-least}
-use Rattle.book.specs.Soundness.{Sound}
-use Rattle.book.specs.Step.{settle}
+use Rattle.meaning.specs.Book.{known, Book, row}
+use Rattle.meaning.specs.SettleLaws.{Ready, known-now, known-rise, new-gathered, settle-sound, log-from, log-or-gone, go-rise, counted-from, counted-now, counted-old, value-now, value-old, value-least}
+use Rattle.meaning.specs.BookLaws.{Sound}
+use Rattle.meaning.specs.Step.{settle}
 use Rattle.house.specs.House.{House, put}
 
 -- One screen's book beside the history, the gossip sent, and every screen's known stamp `known-of`.

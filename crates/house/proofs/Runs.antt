@@ -5,26 +5,25 @@ use mathlib.Core.Path.{refl, _≡_, fun-ext, _∙_, ap, sym, ap₂, subst}
 use mathlib.Core.Logic.{inl, inr, _⊎_, _≢_}
 use mathlib.Core.Bool.{not, Bool, cond}
 use mathlib.Core.List.{[], List, _∷_, List·Memᴰ·cases-cons}
-use mathlib.Core.Option.{some}
 use lib.Dec.{T}
 use lib.ListN.{getD}
 use Rattle.lists.specs.Facts.{none-in, either, is-false, here, there, _∈_}
 use Rattle.lists.specs.MoreFacts.{same-or-not}
-use Rattle.lists.specs.Rows.{kept}
-use Rattle.stamp.specs.Laws.{zeros-part, part-other, part-merge, Covers, fits}
+use Rattle.stamp.specs.Laws.{zeros-part, part-other, part-merge, Covers}
 use Rattle.stamp.specs.Stamp.{part, Stamp}
 use Rattle.tally.specs.declared.Tap.{Tap}
+use Rattle.ledger.specs.LimitLaws.{range-from}
 use Rattle.ledger.specs.Limits.{fewest, most}
 use Rattle.ledger.specs.Message.{Message}
 use Rattle.ledger.specs.Record.{Record, stampOf, mayGo}
-use Rattle.ledger.specs.RecordLaws.{range-from, everywhere-at, go-everywhere}
-use Rattle.book.specs.Answers.{ask-keeps}
-use Rattle.book.specs.Book.{fresh, known, row, Book}
-use Rattle.book.specs.Reply.{taken, Reply, isTaken}
-use Rattle.book.specs.Settle.{value-old}
-use Rattle.book.specs.Soundness.{fresh-sound, fresh-known, fresh-row, send-fits}
-use Rattle.book.specs.Step.{tapStep, Outcome, newRecord, settle, tapRows, send, gossipStep, gossipRows, newOnes}
-use Rattle.book.specs.Steps.{tap-out, gossip-out, TapDone, tap-ready, new-origin, tap-now, tap-row, GossipDone, gossip-ready, new-ones, gossip-now, gossip-row, tap-cases, gossip-cases}
+use Rattle.ledger.specs.RecordLaws.{everywhere-at, go-everywhere}
+use Rattle.meaning.specs.AnswerLaws.{ask-keeps}
+use Rattle.meaning.specs.Book.{fresh, known, row, Book}
+use Rattle.meaning.specs.Reply.{taken, Reply, isTaken}
+use Rattle.meaning.specs.SettleLaws.{value-old}
+use Rattle.meaning.specs.BookLaws.{fresh-sound, fresh-known, fresh-row, send-fits}
+use Rattle.meaning.specs.Step.{tapStep, Outcome, newRecord, settle, tapRows, send, gossipStep, gossipRows, newOnes}
+use Rattle.meaning.specs.StepLaws.{tap-out, gossip-out, TapDone, tap-ready, new-origin, tap-now, tap-row, GossipDone, gossip-ready, new-ones, gossip-now, gossip-row, tap-cases, gossip-cases}
 use Rattle.house.specs.House.{openHouse, House, put, grown, tap, Step, afterTap, question, afterQuestion, afterSend, afterGossip, onward, sends, arrives, Run, opened}
 use Rattle.house.proofs.Invariant.{ScreenOk, Inv, put-either, Onward, knownOf, SentOk, screen-mono, advance, known-grows}
 

@@ -6,14 +6,14 @@ use mathlib.Core.List.{List·Memᴰ, _∷_, []}
 use lib.Dec.{T, eqb}
 use Rattle.lists.specs.Tests.{all}
 use Rattle.stamp.specs.Stamp.{Stamp, atMost}
-use Rattle.tally.specs.Limits.{decline}
+use Rattle.tally.specs.Limits.{decline, accept}
 use Rattle.tally.specs.Standing.{highest, ofPrompt, contested, verdictOf}
 use Rattle.tally.specs.Tap.{tapsIn}
 use Rattle.tally.specs.declared.Tap.{Tap}
 use Rattle.ledger.specs.Record.{Record, isApplied, stampOf}
-use Rattle.book.specs.Book.{known, standingAt}
-use Rattle.book.specs.Reply.{Reply, permits, showingOf}
-use Rattle.book.specs.Step.{ask}
+use Rattle.meaning.specs.Book.{known, standingAt}
+use Rattle.meaning.specs.Reply.{Reply, permits, showingOf}
+use Rattle.meaning.specs.Step.{ask}
 use Rattle.house.specs.Demand.{appliedTaps}
 use Rattle.house.specs.House.{House}
 
@@ -42,6 +42,10 @@ pub record Consent (n : ℕ) (h : House) : Type 0 where
   pub declines-below :
       (i : ℕ) → i < n → (p : ℕ) (l : Stamp) → T (permits (answerAt h i p l)) → (r : Record) → List·Memᴰ r (h .history) → T (atMost (stampOf r) l)
       → (t : Tap) → List·Memᴰ t (tapsIn (r .body)) → t .prompt ≡ p → t .answer ≡ decline → t .showing < showingOf (answerAt h i p l)
+  -- And the yes was tapped: an accept of that prompt, of the answered showing, was taken and is applied on the screen.
+  pub yes-was-tapped :
+      (i : ℕ) → i < n → (p : ℕ) (l : Stamp) → T (permits (answerAt h i p l))
+      → (t : Tap) × Applied h i t × (t .prompt ≡ p) × (t .answer ≡ accept) × (t .showing ≡ showingOf (answerAt h i p l))
   -- A double tap kept as accept and decline, both applied and of the highest showing: the verdict is Contested, and Permission
   -- is no at every label.
   pub double-contested :

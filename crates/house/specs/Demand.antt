@@ -9,13 +9,14 @@ use Rattle.lists.specs.Tests.{keep}
 use Rattle.stamp.specs.Stamp.{Stamp, atMost, zeros}
 use Rattle.tally.specs.Limits.{promptCount}
 use Rattle.tally.specs.Standing.{distinct, standing}
+use Rattle.tally.specs.Tap.{tapsIn}
 use Rattle.tally.specs.declared.Tap.{Tap}
 use Rattle.ledger.specs.Log.{mergeAll}
 use Rattle.ledger.specs.Message.{Message}
 use Rattle.ledger.specs.Record.{Record, isKnown, isApplied, isWaiting, stampOf}
-use Rattle.book.specs.Book.{known, standingAt, sound}
-use Rattle.book.specs.Reply.{Reply, gossiped, refusal, isAnswered}
-use Rattle.book.specs.Step.{tapsOf, gossipStep, ask}
+use Rattle.meaning.specs.Book.{known, standingAt, sound}
+use Rattle.meaning.specs.Reply.{Reply, gossiped, refusal, isAnswered}
+use Rattle.meaning.specs.Step.{tapsOf, gossipStep, ask}
 use Rattle.house.specs.House.{House, Step, Later}
 
 unfoldable pub isUnknown : Stamp → Record → Bool
@@ -66,12 +67,20 @@ pub record Demand (n : ℕ) (h : House) : Type 0 where
   pub leaves-known :
       (h′ : House) → Step n h h′ → (i : ℕ) → i < n → (r : Record) → List·Memᴰ r ((h .book i) .log) → ¬ List·Memᴰ r ((h′ .book i) .log)
       → (k : ℕ) → k < n → T (isKnown (known (h .book k)) r)
+  -- .. nor is one dropped on arrival: a taken record that a screen knows and its log does not hold, every screen knows
+  pub outside-known :
+      (i : ℕ) → i < n → (r : Record) → List·Memᴰ r (h .history) → T (isKnown (known (h .book i)) r) → ¬ List·Memᴰ r ((h .book i) .log)
+      → (k : ℕ) → k < n → T (isKnown (known (h .book k)) r)
   -- every book stays sound
   pub books-sound : (i : ℕ) → i < n → T (sound (h .book i))
   -- gossip sent in the house is refused only as old, spent, for want of room, or as returned to its sender
   pub refused-only : (i : ℕ) → i < n → (m : Message) → List·Memᴰ m (h .sent) → Answered i m ((gossipStep (h .book i) m) .reply)
   -- beside the demand: the history's records are numbered 1, 2, 3 .. at each origin
   pub numbered : T (rightNumbers (h .history))
+  -- beside the demand: no screen takes the same tap twice
+  pub taken-once :
+      (r x : Record) → List·Memᴰ r (h .history) → List·Memᴰ x (h .history) → r .origin ≡ x .origin
+      → (t : Tap) → List·Memᴰ t (tapsIn (r .body)) → List·Memᴰ t (tapsIn (x .body)) → r ≡ x
   -- beside the demand: the counted taps are the distinct taps of applied records
   pub counted-distinct : (i : ℕ) → i < n → (h .book i) .counted ≡ appliedTaps (known (h .book i)) (h .history)
   -- beside the demand: the value stamp is the merge of the stamps of all applied records, zero if none

@@ -7,9 +7,9 @@ use Rattle.stamp.specs.Stamp.{Stamp}
 use Rattle.tally.specs.declared.Tap.{Tap}
 use Rattle.ledger.specs.Message.{Message}
 use Rattle.ledger.specs.Record.{Record}
-use Rattle.book.specs.Book.{Book, fresh}
-use Rattle.book.specs.Reply.{Reply, isTaken}
-use Rattle.book.specs.Step.{tapStep, newRecord, ask, send, gossipStep}
+use Rattle.meaning.specs.Book.{Book, fresh}
+use Rattle.meaning.specs.Reply.{Reply, isTaken}
+use Rattle.meaning.specs.Step.{tapStep, newRecord, ask, send, gossipStep}
 
 -- each screen's book, the gossip ever sent, and the history: the taps taken, the last first
 pub record House : Type 0 where

@@ -1,3 +1,4 @@
 pub mod House
 pub mod Demand
 pub mod Consent
+pub mod Agree

@@ -15,7 +15,7 @@ use Rattle.ledger.specs.Record.{Record}
 use Rattle.log.specs.Region.{logWords}
 use Rattle.counted.specs.Region.{tapWords}
 use Rattle.prompts.specs.Region.{standingWords}
-use Rattle.book.specs.Book.{Book}
+use Rattle.meaning.specs.Book.{Book}
 use Rattle.layout.specs.Words.{sizes, piece, tableWords, pieces, wordsOf, bookOf}
 use Rattle.layout.specs.WordsLaws.{Shape, pieces-long, book-words}
 use Rattle.layout.specs.With.{withTable, withValue, withLog, withCounted, withPrompts}

@@ -19,8 +19,8 @@ use Rattle.ledger.specs.Limits.{fewest, most}
 use Rattle.ledger.specs.Message.{inRange}
 use Rattle.ledger.specs.RecordLaws.{obeys}
 use Rattle.log.specs.RegionLaws.{eightParts}
-use Rattle.book.specs.Book.{Book, sound}
-use Rattle.book.specs.Soundness.{Sound, sound-at, at-sound}
+use Rattle.meaning.specs.Book.{Book, sound}
+use Rattle.meaning.specs.BookLaws.{Sound, sound-at, at-sound}
 use Rattle.layout.specs.Words.{wordsOf, bookOf, shaped, lawful}
 use Rattle.layout.specs.WordsLaws.{Shape, words-book, book-words, words-shaped}
 use Rattle.layout.specs.Held.{Held}

@@ -4,7 +4,7 @@ use Rattle.stamp.specs.Stamp.{Stamp}
 use Rattle.tally.specs.declared.Standing.{Standing}
 use Rattle.tally.specs.declared.Tap.{Tap}
 use Rattle.ledger.specs.Record.{Record}
-use Rattle.book.specs.Book.{Book}
+use Rattle.meaning.specs.Book.{Book}
 
 abbrev pub withTable : List Stamp → Book → Book
 withTable rows b = record { me = b .me; screens = b .screens; table = rows; value = b .value; log = b .log; counted = b .counted; prompts = b .prompts }

@@ -15,7 +15,7 @@ use Rattle.ledger.specs.Limits.{most, logRoom, bookRoom}
 use Rattle.log.specs.Region.{rowLong, recordsAt, logWords}
 use Rattle.counted.specs.Region.{tapsAt, tapWords}
 use Rattle.prompts.specs.Region.{standingsAt, standingWords}
-use Rattle.book.specs.Book.{Book, sound}
+use Rattle.meaning.specs.Book.{Book, sound}
 
 -- the pieces' lengths: i, N, the log's and the counted taps' numbers; the table, eight rows of eight; the value stamp; the log, 256
 -- rows of eleven; the counted taps; the prompts, 64 of three

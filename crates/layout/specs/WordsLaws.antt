@@ -30,7 +30,7 @@ use Rattle.counted.specs.Region.{tapsAt, tapWords}
 use Rattle.counted.specs.RegionLaws.{AllFit, length-taps, length-words, taps-words, words-taps}
 use Rattle.prompts.specs.Region.{standingsAt, standingWords}
 use Rattle.prompts.specs.RegionLaws.{standings-words, words-standings, length-words as standings-long}
-use Rattle.book.specs.Book.{Book}
+use Rattle.meaning.specs.Book.{Book}
 use Rattle.layout.specs.Words.{sizes, bookLong, piece, tableWords, pieces, wordsOf, bookOf, zeroFrom, shapeRules, shaped}
 
 -- what a book needs for its words to hold it

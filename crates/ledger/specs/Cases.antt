@@ -1,25 +1,25 @@
 -- What is new, what may go and what waits, by document 01's own examples: one table, one claim. Assumes nothing.
 use Prim.Native.Nat.{ℕ}
 use mathlib.Core.Path.{_≡_, refl}
-use mathlib.Core.Bool.{Bool, true}
+use mathlib.Core.Bool.{true}
 use mathlib.Core.List.{_∷_, [], List, map}
-use Rattle.lists.specs.Order.{sameKey}
-use Rattle.lists.specs.Tests.{every}
+use Rattle.lists.specs.Table.{agrees}
 use Rattle.stamp.specs.Stamp.{Stamp}
 use Rattle.ledger.specs.Log.{unknowns, waitingIn, remaining}
 use Rattle.ledger.specs.Record.{Record, stampOf, knows, isKnown, isApplied, isWaiting, everywhere, mayGo}
 
-at : ℕ → ℕ → ℕ → Stamp
+-- a stamp by its first parts, and the numbers of some records
+abbrev pub at : ℕ → ℕ → ℕ → Stamp
 at a b c = a ∷ b ∷ c ∷ 0 ∷ 0 ∷ 0 ∷ 0 ∷ 0 ∷ []
+
+abbrev pub numbersOf : List Record → List ℕ
+numbersOf rs = map (λ r. r .number) rs
 
 -- record 1 of origin 0 with a label
 first : Stamp → Record
 first label = record { origin = 0; number = 1; label = label; body = 0 }
 
-numbersOf : List Record → List ℕ
-numbersOf rs = map (λ r. r .number) rs
-
-table : List (List ℕ × List ℕ)
+pub table : List (List ℕ × List ℕ)
 table =
     -- a record with stamp (1,5,0) is not new under the known stamp (1,0,0): only the origin's part counts
     (stampOf (first (at 0 5 0)), at 1 5 0)
@@ -33,11 +33,6 @@ table =
     ∷ (numbersOf (remaining (at 1 0 0) (at 1 0 0 ∷ at 1 0 0 ∷ []) (first (at 0 0 0) ∷ [])), [])
     ∷ []
 
--- every line agrees
-unfoldable pub practised : Bool
-unfolding at first numbersOf table
-practised = every (λ l. sameKey (l .0) (l .1)) table
-
-pub records-practised : practised ≡ true
-unfolding practised at first numbersOf table stampOf knows isKnown isApplied isWaiting everywhere mayGo unknowns remaining waitingIn
+pub records-practised : agrees table ≡ true
+unfolding first table stampOf knows isKnown isApplied isWaiting everywhere mayGo unknowns remaining waitingIn
 records-practised = refl

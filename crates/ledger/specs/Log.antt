@@ -4,7 +4,6 @@ use mathlib.Core.Bool.{not, _&&_, Bool, _||_}
 use mathlib.Core.List.{List, [], _∷_}
 use lib.Dec.{ltb}
 use Rattle.lists.specs.Order.{insertAll}
-use Rattle.lists.specs.Rows.{rows}
 use Rattle.lists.specs.Tests.{keep, allBelow}
 use Rattle.stamp.specs.Stamp.{Stamp, merge, part}
 use Rattle.ledger.specs.Message.{Message}
@@ -26,6 +25,7 @@ newlyApplied before now rs = keep (λ r. isApplied now r && not (isApplied befor
 unfoldable pub remaining : Stamp → List Stamp → List Record → List Record
 remaining s rows rs = keep (λ r. not (mayGo s rows r)) rs
 
+-- waiting: known, not applied
 unfoldable pub waitingIn : Stamp → List Record → List Record
 waitingIn s rs = keep (isWaiting s) rs
 

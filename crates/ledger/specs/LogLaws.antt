@@ -9,7 +9,6 @@ use lib.Dec.{T, ltb, ltb→lt, nltb→le, eqb}
 use lib.ListN.{getD, length}
 use Rattle.lists.specs.Facts.{there, here, _∈_, keep-mem, mem-keep, not-from, and-l, both, either, tell, keep-le, bit, keep-keep-le, keep-share, or-cases, allBelow-at, allBelow-from, or-l, or-r, and-r, every-at, none-in}
 use Rattle.lists.specs.Order.{rising, keyBefore}
-use Rattle.lists.specs.Rows.{rows}
 use Rattle.lists.specs.Sorted.{Put, put-all, keep-rising}
 use Rattle.lists.specs.Tests.{keep, every, allBelow}
 use Rattle.stamp.specs.Laws.{Covers, total-mono, total-raised, part-either, part-merge, Fits, fits-merge}

@@ -3,17 +3,14 @@ use Prim.Native.Nat.{_≤_, _<_, ℕ}
 use native.Mathlib.Omega.{arith}
 use mathlib.Core.Path.{_≡_, subst, sym}
 use mathlib.Core.Bool.{not, _&&_, Bool}
-use mathlib.Core.List.{List, [], _∷_}
-use lib.Dec.{T, leb, leb→le, le→leb, nleb→lt, eqb, eqb→eq, ltb, ltb→lt, lt→ltb}
+use mathlib.Core.List.{List, []}
+use lib.Dec.{T, leb, leb→le, le→leb, nleb→lt, eqb, eqb→eq, ltb→lt}
 use lib.ListN.{length, getD}
-use Rattle.lists.specs.Facts.{and-l, and-r, both, every-getD, getD-every, _∈_, exists-at, exists-from, all-at, either, all-from, _also_, done}
+use Rattle.lists.specs.Facts.{and-l, and-r, both, every-getD, getD-every, _∈_, exists-at, exists-from, all-at, either}
 use Rattle.lists.specs.MoreFacts.{eq→eqb}
-use Rattle.lists.specs.Rows.{rows}
 use Rattle.stamp.specs.Laws.{Covers, atMost-parts, parts-atMost, Fits, fits, part-replaced, part-either, fits-replace}
 use Rattle.stamp.specs.Limits.{parts, word}
 use Rattle.stamp.specs.Stamp.{Stamp, part, atMost}
-use Rattle.ledger.specs.Limits.{fewest, most, bookRoom}
-use Rattle.ledger.specs.Message.{inRange}
 use Rattle.ledger.specs.Record.{Record, isKnown, knows, isApplied, isWaiting, everywhere, mayGo, has, recordFits, recordRules, stampOf}
 
 pub known-le : (s : Stamp) (r : Record) → T (isKnown s r) → r .number ≤ part s (r .origin)
@@ -138,25 +135,3 @@ covered-applied s r h c = applied-from s r (omega (arith, stamp-origin r, c (r .
 pub stamp-fits : (n : ℕ) (r : Record) → Fits n (r .label) → r .origin < n → n ≤ parts → r .number < word → Fits n (stampOf r)
 unfolding stampOf
 stamp-fits n r f o p w = fits-replace n (r .label) (r .origin) (r .number) f o p w
-
--- a house's range
-pub range-me : (i n : ℕ) → T (inRange i n) → i < n
-unfolding inRange
-range-me i n t = ltb→lt i n (all-at (leb fewest n ∷ leb n most ∷ ltb i n ∷ []) 2 t)
-
-most-parts : most ≤ parts
-unfolding most parts
-most-parts = omega arith
-
-pub range-parts : (i n : ℕ) → T (inRange i n) → n ≤ parts
-unfolding inRange
-range-parts i n t = omega (arith, most-parts, leb→le n most (all-at (leb fewest n ∷ leb n most ∷ ltb i n ∷ []) 1 t))
-
-pub range-from : (i n : ℕ) → fewest ≤ n → n ≤ most → i < n → T (inRange i n)
-unfolding inRange
-range-from i n lo hi h = all-from {cs = leb fewest n ∷ leb n most ∷ ltb i n ∷ []} (le→leb fewest n lo also le→leb n most hi also lt→ltb i n h also done)
-
--- what a book may know fits a part
-pub room-word : bookRoom < word
-unfolding bookRoom word
-room-word = omega arith

@@ -10,7 +10,7 @@ use mathlib.Core.Option.{some, none}
 use lib.Dec.{eqb, T, eqb-refl, eqb→eq}
 use lib.ListN.{set, replicate, length, getD}
 use lib.Seq.{getD-set-same, getD-set-other}
-use Rattle.lists.specs.Facts.{either, tell, clash, bit, both, and-r, and-l, here, _∈_, there, is-true, is-false, keep-length, mem-keep, none-in, firstOf-some, every-at}
+use Rattle.lists.specs.Facts.{either, tell, clash, bit, both, and-r, and-l, here, _∈_, there, is-true, is-false, keep-length, mem-keep, none-in, keep-mem, firstOf-some, every-at}
 use Rattle.lists.specs.Order.{insert, keyBefore}
 use Rattle.lists.specs.Sorted.{before-total}
 use Rattle.lists.specs.Tests.{every, allBelow, numbers, keep, firstOf}
@@ -21,11 +21,11 @@ eq→eqb a b e = subst (λ (x : ℕ). T (eqb a x)) e (eqb-refl a)
 pub same-or-not : (a b : ℕ) → (a ≡ b) ⊎ (a ≢ b)
 same-or-not a b = either (tell (eqb a b)) (λ t. inl (eqb→eq a b t)) (λ t. inr (λ e. clash (eqb a b) (eq→eqb a b e) t))
 
--- at most one of two tests passes
 pub bit-le : (c : Bool) → bit c ≤ 1
 bit-le true = omega arith
 bit-le false = omega arith
 
+-- two tests that never pass together
 pub bit-apart : (a c : Bool) → (T a → T c → ⊥) → bit a + bit c ≤ 1
 bit-apart true true f = absurd (f tt tt)
 bit-apart true false f = omega arith
@@ -108,13 +108,23 @@ module _ {A : Type 0} (q : A → Bool) (t : A) where
   more-count {ts} at = omega (arith, keep-length q t ts)
   more-count (later {y} {ts} {us} r) = omega (arith, keep-length q y ts, keep-length q y us, more-count r)
 
--- what passes a test is there, and counts
+-- something is kept exactly when something passes the test
 pub keep-some : {A : Type 0} (q : A → Bool) (xs : List A) {x : A} → x ∈ xs → T (q x) → 0 < length (keep q xs)
 keep-some q xs m h = some-in (keep q xs) (mem-keep q xs m h)
   where
     some-in : {A : Type 0} (ys : List A) {y : A} → y ∈ ys → 0 < length ys
     some-in [] n = none-in n
     some-in (z ∷ zs) n = omega arith
+
+pub some-kept : {A : Type 0} (q : A → Bool) (xs : List A) → 0 < length (keep q xs) → (x : A) × (x ∈ xs) × T (q x)
+some-kept {A} q xs h = go (keep q xs) refl h
+  where
+    go : (ys : List A) → keep q xs ≡ ys → 0 < length ys → (x : A) × (x ∈ xs) × T (q x)
+    go [] e l = absurd (omega arith)
+    go (y ∷ ys) e l = found (keep-mem q xs (subst (λ (zs : List A). y ∈ zs) (sym e) here))
+      where
+        found : (y ∈ xs) × T (q y) → (x : A) × (x ∈ xs) × T (q x)
+        found w = (y, w .0, w .1)
 
 -- when no test passes there is no first
 pub none-first : {A : Type 0} (cs : List (Bool × A)) → T (every (λ c. not (c .0)) cs) → firstOf cs ≡ none
@@ -134,7 +144,3 @@ first-passes {A} p cs t r e = go (firstOf-some cs r e)
 pub nor-l : (x y : Bool) → T (not (x || y)) → T (not x)
 nor-l true y n = n
 nor-l false y n = tt
-
-pub nor-r : (x y : Bool) → T (not (x || y)) → T (not y)
-nor-r true y n = absurd n
-nor-r false y n = n

@@ -10,7 +10,7 @@ use Rattle.tally.specs.declared.Tap.{Tap}
 use Rattle.ledger.specs.Log.{remaining}
 use Rattle.ledger.specs.Record.{Record, stampOf, isApplied}
 use Rattle.prompts.specs.Region.{notedAt}
-use Rattle.book.specs.Book.{Book, known}
+use Rattle.meaning.specs.Book.{Book, known}
 use Rattle.layout.specs.With.{withValue, withLog, withCounted, withPrompts}
 
 -- a tap that is not among the counted ones is put in its place and noted at its prompt

@@ -17,8 +17,8 @@ use Rattle.ledger.specs.Log.{newlyApplied, gathered, mergeAll, remaining}
 use Rattle.ledger.specs.Record.{Record, stampOf, isApplied}
 use Rattle.prompts.specs.Region.{notedAt}
 use Rattle.prompts.specs.RegionLaws.{afresh-insert, prompt-word}
-use Rattle.book.specs.Book.{Book, known, row}
-use Rattle.book.specs.Step.{nowApplied, tapsOf, nowCounted, settle}
+use Rattle.meaning.specs.Book.{Book, known, row}
+use Rattle.meaning.specs.Step.{nowApplied, tapsOf, nowCounted, settle}
 use Rattle.layout.specs.With.{withTable, withValue, withLog, withCounted, withPrompts}
 use Rattle.moves.specs.Moves.{countOne, isNew, applyOne, applyAll, settled}
 

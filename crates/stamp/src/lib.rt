@@ -5,7 +5,7 @@ ghost use lib.Dec.{T, ltb, eqb};
 ghost use lib.ListN.{length, drop};
 ghost use Rattle.lists.specs.Tests.{every};
 ghost use Rattle.stamp.specs.Limits.{parts, word};
-ghost use Rattle.stamp.specs.Stamp.{atMost, merge, replace, total, excess, over, stampFits};
+ghost use Rattle.stamp.specs.Stamp.{atMost, merge, replace, total, excess, over, stampFits, part};
 ghost use Rattle.stamp.specs.Parts.{partsAt, listOf};
 
 // How many parts a stamp has.
@@ -170,4 +170,16 @@ pub fn parts_fit(p: Parts, n: usize) -> bool
 {
     let s = list_of(p);
     fits(&s, n)
+}
+
+// Part k, zero past the eighth.
+pub fn part_of(p: Parts, k: u64) -> u64
+    ensures { λ r. ⌜ r ≡ part (listOf p) k ⌝ }
+{
+    let s = list_of(p);
+    let i = k as usize;
+    if PARTS <= i {
+        return 0;
+    }
+    s[i]
 }

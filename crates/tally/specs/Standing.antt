@@ -22,7 +22,7 @@ countAll ts counted = insertAll fields ts counted
 unfoldable pub distinct : List Tap → List Tap
 distinct ts = countAll ts []
 
--- for each prompt the highest showing among its counted taps (0 if none), and how many of that showing are accepts and declines
+-- a prompt's taps, the highest showing of some taps (0 if none), and how many of showing s have answer a
 unfoldable pub ofPrompt : ℕ → List Tap → List Tap
 ofPrompt p ts = keep (λ t. eqb (t .prompt) p) ts
 
@@ -30,7 +30,6 @@ abbrev pub highest : List Tap → ℕ
 highest [] = 0
 highest (t ∷ ts) = max (t .showing) (highest ts)
 
--- how many taps of showing s have answer a
 unfoldable pub howMany : ℕ → ℕ → List Tap → ℕ
 howMany s a ts = length (keep (λ t. eqb (t .showing) s && eqb (t .answer) a) ts)
 

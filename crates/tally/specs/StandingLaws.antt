@@ -10,13 +10,13 @@ use lib.Dec.{T, eqb, ltb, ltb→lt, eqb-refl, nltb→le, eqb→eq}
 use lib.ListN.{length, getD, length-map, set, length-set}
 use lib.Seq.{ext-getD, getD-set-same, getD-set-other}
 use borrow.Author.Tests.{ne-eqb, lt-ltb, le-ltb, eq-eqb}
-use Rattle.lists.specs.Facts.{keep-le, keep-length, here, bit, is-true, is-false, tell, either, not-from, _∈_, there, keep-all, keep-share, and-r, and-l, both, none-in, mem-keep}
-use Rattle.lists.specs.MoreFacts.{OneMore, at, later, more-count, same-or-not, eq→eqb, more-out, more-in, numbers-at, numbers-length, insert-new, bit-apart, keep-some}
+use Rattle.lists.specs.Facts.{keep-le, keep-length, here, bit, is-true, is-false, tell, either, not-from, _∈_, there, keep-all, keep-share, and-r, and-l, both, none-in, mem-keep, keep-mem}
+use Rattle.lists.specs.MoreFacts.{OneMore, at, later, more-count, same-or-not, eq→eqb, more-out, more-in, numbers-at, numbers-length, insert-new, bit-apart, keep-some, some-kept}
 use Rattle.lists.specs.Order.{rising, insert, insertAll, sameKey}
 use Rattle.lists.specs.Sorted.{insert-same, put-all, Put, sameKey→≡, sameKey-refl}
 use Rattle.lists.specs.Tests.{keep, numbers}
 use Rattle.tally.specs.Limits.{accept, decline, promptCount}
-use Rattle.tally.specs.Standing.{highest, howMany, count, oneIf, standing, noted, standingOf, ofPrompt, afresh, blank, among, counting, countAll, counts, sameCounts, contested, verdictOf, declined, accepted}
+use Rattle.tally.specs.Standing.{highest, howMany, count, oneIf, standing, noted, standingOf, ofPrompt, afresh, blank, among, counting, countAll, counts, sameCounts, contested, verdictOf, declined, unasked, accepted}
 use Rattle.tally.specs.Tap.{fields}
 use Rattle.tally.specs.TapLaws.{among-mem, mem-among}
 use Rattle.tally.specs.WordLaws.{fields-same}
@@ -234,27 +234,50 @@ highest-over : (ts : List Tap) {t : Tap} → t ∈ ts → t .showing ≤ highest
 highest-over [] m = none-in m
 highest-over (u ∷ us) m = either (List·Memᴰ·cases-cons m) (λ e. omega (arith, ap (λ (x : Tap). x .showing) e)) (λ n. omega (arith, highest-over us n))
 
-of-prompt : (ts : List Tap) (t : Tap) → t ∈ ts → t ∈ ofPrompt (t .prompt) ts
+of-prompt : (ts : List Tap) (p : ℕ) (t : Tap) → t ∈ ts → t .prompt ≡ p → t ∈ ofPrompt p ts
 unfolding ofPrompt
-of-prompt ts t m = mem-keep (λ u. eqb (u .prompt) (t .prompt)) ts m (eqb-refl (t .prompt))
+of-prompt ts p t m e = mem-keep (λ u. eqb (u .prompt) p) ts m (eq→eqb (t .prompt) p e)
 
-pub standing-over : (ts : List Tap) (t : Tap) → t ∈ ts → t .showing ≤ (standing ts (t .prompt)) .showing
+pub standing-showing : (ts : List Tap) (p : ℕ) → (standing ts p) .showing ≡ highest (ofPrompt p ts)
 unfolding standing standingOf
-standing-over ts t m = highest-over (ofPrompt (t .prompt) ts) (of-prompt ts t m)
+standing-showing ts p = refl
+
+pub standing-over : (ts : List Tap) (p : ℕ) (t : Tap) → t ∈ ts → t .prompt ≡ p → t .showing ≤ (standing ts p) .showing
+standing-over ts p t m e = omega (arith, highest-over (ofPrompt p ts) (of-prompt ts p t m e), standing-showing ts p)
 
 some-of : (s a : ℕ) (ts : List Tap) (t : Tap) → t ∈ ts → t .showing ≡ s → t .answer ≡ a → 0 < howMany s a ts
 unfolding howMany
 some-of s a ts t m e f = keep-some (λ u. eqb (u .showing) s && eqb (u .answer) a) ts m (both (eqb (t .showing) s) (eqb (t .answer) a) (eq→eqb (t .showing) s e) (eq→eqb (t .answer) a f))
 
-pub accept-counted : (ts : List Tap) (t : Tap) → t ∈ ts → t .showing ≡ (standing ts (t .prompt)) .showing → t .answer ≡ accept → 0 < (standing ts (t .prompt)) .accepts
+pub accept-counted : (ts : List Tap) (p : ℕ) (t : Tap) → t ∈ ts → t .prompt ≡ p → t .showing ≡ (standing ts p) .showing → t .answer ≡ accept → 0 < (standing ts p) .accepts
 unfolding standing standingOf
-accept-counted ts t m e f = some-of (highest (ofPrompt (t .prompt) ts)) accept (ofPrompt (t .prompt) ts) t (of-prompt ts t m) e f
+accept-counted ts p t m e f g = some-of (highest (ofPrompt p ts)) accept (ofPrompt p ts) t (of-prompt ts p t m e) f g
 
-pub decline-counted : (ts : List Tap) (t : Tap) → t ∈ ts → t .showing ≡ (standing ts (t .prompt)) .showing → t .answer ≡ decline → 0 < (standing ts (t .prompt)) .declines
+pub decline-counted : (ts : List Tap) (p : ℕ) (t : Tap) → t ∈ ts → t .prompt ≡ p → t .showing ≡ (standing ts p) .showing → t .answer ≡ decline → 0 < (standing ts p) .declines
 unfolding standing standingOf
-decline-counted ts t m e f = some-of (highest (ofPrompt (t .prompt) ts)) decline (ofPrompt (t .prompt) ts) t (of-prompt ts t m) e f
+decline-counted ts p t m e f g = some-of (highest (ofPrompt p ts)) decline (ofPrompt p ts) t (of-prompt ts p t m e) f g
 
--- accepts and declines mean Contested, declines alone Declined; so Accepted means no declines
+-- a count above zero comes from a tap of the highest showing
+pub accept-there : (ts : List Tap) (p : ℕ) → 0 < (standing ts p) .accepts → (t : Tap) × (t ∈ ts) × (t .prompt ≡ p) × (t .showing ≡ (standing ts p) .showing) × (t .answer ≡ accept)
+unfolding standing standingOf howMany ofPrompt
+accept-there ts p h = go (some-kept (λ u. eqb (u .showing) top && eqb (u .answer) accept) mine h)
+  where
+    mine : List Tap
+    mine = keep (λ u. eqb (u .prompt) p) ts
+
+    top : ℕ
+    top = highest mine
+
+    go : ((t : Tap) × (t ∈ mine) × T (eqb (t .showing) top && eqb (t .answer) accept)) → (t : Tap) × (t ∈ ts) × (t .prompt ≡ p) × (t .showing ≡ top) × (t .answer ≡ accept)
+    go w = (
+      w .0,
+      keep-mem (λ u. eqb (u .prompt) p) ts (w .1) .0,
+      eqb→eq (w .0 .prompt) p (keep-mem (λ u. eqb (u .prompt) p) ts (w .1) .1),
+      eqb→eq (w .0 .showing) top (and-l (eqb (w .0 .showing) top) (eqb (w .0 .answer) accept) (w .2)),
+      eqb→eq (w .0 .answer) accept (and-r (eqb (w .0 .showing) top) (eqb (w .0 .answer) accept) (w .2)),
+    )
+
+-- accepts and declines mean Contested, declines alone Declined, neither Unasked; so Accepted means accepts only
 pub both-contested : (s : Standing) → 0 < s .accepts → 0 < s .declines → verdictOf s ≡ contested
 unfolding verdictOf
 both-contested s a d = rw (lt-ltb 0 (s .accepts) a, lt-ltb 0 (s .declines) d)
@@ -263,13 +286,18 @@ only-declined : (s : Standing) → s .accepts ≤ 0 → 0 < s .declines → verd
 unfolding verdictOf
 only-declined s a d = rw (le-ltb 0 (s .accepts) a, lt-ltb 0 (s .declines) d)
 
-pub accepted-only : (s : Standing) → verdictOf s ≡ accepted → s .declines ≡ 0
-unfolding accepted declined contested
+neither-unasked : (s : Standing) → s .accepts ≤ 0 → s .declines ≤ 0 → verdictOf s ≡ unasked
+unfolding verdictOf
+neither-unasked s a d = rw (le-ltb 0 (s .accepts) a, le-ltb 0 (s .declines) d)
+
+pub accepted-only : (s : Standing) → verdictOf s ≡ accepted → (0 < s .accepts) × (s .declines ≡ 0)
+unfolding unasked accepted declined contested
 accepted-only s e =
     either (tell (ltb 0 (s .declines)))
     (λ d. either (tell (ltb 0 (s .accepts))) (λ a. absurd (omega (arith, e, both-contested s (ltb→lt 0 (s .accepts) a) (ltb→lt 0 (s .declines) d))))
     (λ a. absurd (omega (arith, e, only-declined s (nltb→le 0 (s .accepts) a) (ltb→lt 0 (s .declines) d)))))
-    (λ d. omega (arith, nltb→le 0 (s .declines) d))
+    (λ d. either (tell (ltb 0 (s .accepts))) (λ a. (ltb→lt 0 (s .accepts) a, omega (arith, nltb→le 0 (s .declines) d)))
+    (λ a. absurd (omega (arith, e, neither-unasked s (nltb→le 0 (s .accepts) a) (nltb→le 0 (s .declines) d)))))
 
 pub contested-not : contested ≢ accepted
 unfolding contested accepted

@@ -1,0 +1,38 @@
+-- `replies::read_gossip_taken` meets its contract. Assumes nothing.
+use mathlib.Core.Path.{_≡_, refl}
+use mathlib.Core.Bool.{true}
+use native.Mathlib.Omega.{arith}
+use Rattle.wire.specs.Kinds.{shaped, bodyOf, gossipTakenKind}
+use Rattle.wire.specs.Read.{lineOf}
+use Rattle.wire.specs.Returns.{failed, passed, shaped-long, not-shaped, kept}
+use borrow.Author.Needs.{needs}
+use Rattle.replies.proofs.read_gossip_taken.Statement.{statement}
+use Rattle.replies.proofs.read_gossip_taken.Tie as tie
+
+shape : (c : tie.Else1) → shaped 10 (c .before .before .before .args .msg .now) ≡ true
+shape c = passed (c .before .is-kind .ensures) (c .if1 .left)
+
+returns : tie.Need-returns
+unfolding gossipTakenKind
+returns c = not-shaped gossipTakenKind _ (failed (c .before .is-kind .ensures) (c .if1 .taken))
+
+read-fields-requires : tie.Need-read-fields-requires
+unfolding bodyOf
+read-fields-requires c κs = let e = c .before .before in (refl, (omega (arith, shaped-long 10 4 (e .before .before .before .args .msg .now) refl (shape e)), tt))
+
+returns-2 : tie.Need-returns-2
+unfolding gossipTakenKind lineOf
+returns-2 c = let r = c .before in kept gossipTakenKind _ _ (shape (r .before .before .before)) (r .read-fields .ensures) refl
+
+pub read-gossip-taken-spec : {M : Type 1} → statement M
+read-gossip-taken-spec =
+    tie.close
+    (tie.spec
+    (λ c κs. search needs)
+    returns
+    (λ c. search needs)
+    (λ c. search needs)
+    read-fields-requires
+    (λ c. search needs)
+    (λ c. search needs)
+    returns-2)

@@ -1,0 +1,7 @@
+pub mod Said
+pub mod Kinds
+pub mod Read
+pub mod Write
+pub mod Returns
+pub mod Laws
+pub mod Case
