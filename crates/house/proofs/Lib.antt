@@ -5,3 +5,4 @@ pub mod Once
 pub mod Demand
 pub mod Consent
 pub mod Agree
+pub mod LentRuns

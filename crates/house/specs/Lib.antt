@@ -2,3 +2,4 @@ pub mod House
 pub mod Demand
 pub mod Consent
 pub mod Agree
+pub mod LentHouse

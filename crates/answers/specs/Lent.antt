@@ -1,0 +1,75 @@
+-- What each operation answers and leaves, of a lent slice of words and the bytes of a message. Assumes nothing.
+use Prim.Native.Nat.{ℕ}
+use mathlib.Core.Path.{_≡_}
+use mathlib.Core.Bool.{Bool, cond}
+use mathlib.Core.List.{List, _++_}
+use mathlib.Core.Option.{Option, none, some}
+use lib.Dec.{eqb, ltb}
+use lib.ListN.{length, getD, drop}
+use Rattle.lists.specs.Tests.{firstOf}
+use Rattle.wire.specs.Kinds.{tapKind, questionKind, tapAt, stampAt}
+use Rattle.wire.specs.Read.{lineOf, readable}
+use Rattle.wire.specs.Write.{Output, refuse}
+use Rattle.wire.specs.declared.Written.the-variants.{Wrote}
+use Rattle.gossip.specs.Message.{wellFormed, messageOf, bytesOf}
+use Rattle.meaning.specs.Book.{Book, fresh}
+use Rattle.meaning.specs.Reply.{Reply, refusal}
+use Rattle.meaning.specs.Step.{Outcome, openStops, tapStep, ask, send, gossipStep}
+use Rattle.layout.specs.Words.{bookLong, bookOf, wordsOf, lawful}
+use Rattle.answers.specs.Spoken.{spoken}
+use Rattle.answers.specs.declared.Reply as answer
+
+-- the reply, and the words that are left
+pub record Lent : Type 0 where
+  pub reply : Reply
+  pub words : List ℕ
+
+-- what an operation answers and leaves is just this
+pub record Promise (o : Lent) (r : answer.Reply) (words : List ℕ) : Type 0 where
+  pub answers : spoken r ≡ o .reply
+  pub leaves : words ≡ o .words
+
+-- 11 where the lent book is unsound or of wrong length, and nothing is altered; else the step on the book that it holds
+abbrev pub onBook : List ℕ → Outcome → Lent
+onBook ws o = cond (lawful ws) (record { reply = o .reply; words = wordsOf (o .book) }) (record { reply = refusal 11; words = ws })
+
+-- 1 where the bytes are no message of the kind expected, or break a field rule
+abbrev pub heard : Bool → Book → Outcome → Outcome
+heard readable b o = cond readable o (record { reply = refusal 1; book = b })
+
+abbrev pub hearTap : Book → List ℕ → Outcome
+hearTap b bytes = let k = tapKind (b .screens) in heard (readable k bytes) b (tapStep b (tapAt 1 (lineOf k bytes)) (stampAt 6 (lineOf k bytes)))
+
+unfoldable pub tapOn : List ℕ → List ℕ → Lent
+tapOn ws bytes = onBook ws (hearTap (bookOf ws) bytes)
+
+abbrev pub hearQuestion : Book → List ℕ → Outcome
+hearQuestion b bytes = let k = questionKind (b .screens) in heard (readable k bytes) b (ask b (getD (lineOf k bytes) 1 0) (stampAt 2 (lineOf k bytes)))
+
+unfoldable pub questionOn : List ℕ → List ℕ → Lent
+questionOn ws bytes = onBook ws (hearQuestion (bookOf ws) bytes)
+
+abbrev pub hearGossip : Book → List ℕ → Outcome
+hearGossip b bytes = heard (wellFormed bytes) b (gossipStep b (messageOf bytes))
+
+unfoldable pub gossipOn : List ℕ → List ℕ → Lent
+gossipOn ws bytes = onBook ws (hearGossip (bookOf ws) bytes)
+
+-- send: 11, then 12; the message at the front of the output, the rest of which stays; the book does not change
+abbrev pub putFront : List ℕ → List ℕ → Output
+putFront bytes out = cond (ltb (length out) (length bytes)) (refuse 12 out) (record { answer = Wrote (length bytes); bytes = bytes ++ drop (length bytes) out })
+
+unfoldable pub sendOn : List ℕ → List ℕ → Output
+sendOn ws out = cond (lawful ws) (putFront (bytesOf (send (bookOf ws))) out) (refuse 11 out)
+
+-- open: 11 by the length only, then 2; else the fresh book
+pub record Opened : Type 0 where
+  pub refused : Option Reply
+  pub words : List ℕ
+
+abbrev pub openOr : List ℕ → List ℕ → Option Reply → Opened
+openOr ws done none = record { refused = none; words = done }
+openOr ws done (some r) = record { refused = some r; words = ws }
+
+unfoldable pub openOn : List ℕ → ℕ → ℕ → Opened
+openOn ws i n = openOr ws (wordsOf (fresh i n)) (firstOf (openStops (eqb (length ws) bookLong) i n))

@@ -1,0 +1,96 @@
+-- Laws: on the words of a sound book an operation is the step of that book; a promise has one outcome; a question changes nothing.
+-- Assumes nothing.
+use Prim.Native.Nat.{ℕ, _≤_, _<_}
+use native.Mathlib.Omega.{arith}
+use mathlib.Core.Path.{_≡_, refl, sym, ap, ap₂, subst, _∙_}
+use mathlib.Core.Bool.{Bool, true, false, not, cond}
+use mathlib.Core.List.{List, _++_}
+use mathlib.Core.Option.{none, some}
+use lib.Dec.{T, eqb, ltb}
+use lib.ListN.{length, getD, take, drop}
+use Rattle.lists.specs.Facts.{is-true, is-false, tell, either}
+use Rattle.lists.specs.Tests.{firstOf}
+use Rattle.stamp.specs.Parts.{partsAt, listOf}
+use Rattle.stamp.specs.PartsLaws.{parts-list}
+use Rattle.stamp.specs.declared.Parts.{Parts}
+use Rattle.wire.specs.Kinds.{questionKind, stampAt}
+use Rattle.wire.specs.Read.{lineOf, readable}
+use Rattle.wire.specs.Write.{Output, refuse}
+use Rattle.gossip.specs.Message.{wellFormed, messageOf, bytesOf}
+use Rattle.meaning.specs.AnswerLaws.{ask-keeps}
+use Rattle.meaning.specs.Book.{Book}
+use Rattle.meaning.specs.BookLaws.{Sound}
+use Rattle.meaning.specs.Reply.{Reply, refusal}
+use Rattle.meaning.specs.Reply as meaning
+use Rattle.meaning.specs.Step.{Outcome, ask, send}
+use Rattle.layout.specs.SoundWords.{sound-shape, sound-lawful, lawful-held}
+use Rattle.layout.specs.Words.{bookOf, wordsOf, lawful}
+use Rattle.layout.specs.WordsLaws.{book-words}
+use Rattle.answers.specs.Lent.{Lent, Promise, onBook, heard, hearTap, tapOn, hearQuestion, questionOn, hearGossip, gossipOn, putFront, sendOn}
+use Rattle.answers.specs.Spoken.{spoken}
+use Rattle.answers.specs.declared.Reply as answer
+use Rattle.answers.specs.declared.Reply.the-variants as says
+
+-- the reply of a step and the words of its book
+abbrev pub lentOf : Outcome → Lent
+lentOf o = record { reply = o .reply; words = wordsOf (o .book) }
+
+module _ (b : Book) (s : Sound b) where
+  pub book-back : bookOf (wordsOf b) ≡ b
+  book-back = book-words b (sound-shape b s)
+
+  lawful-now : lawful (wordsOf b) ≡ true
+  lawful-now = is-true (lawful (wordsOf b)) (sound-lawful b s)
+
+  on-book : (f : Book → Outcome) → onBook (wordsOf b) (f (bookOf (wordsOf b))) ≡ lentOf (f b)
+  on-book f = ap (λ (c : Bool). cond c (lentOf (f (bookOf (wordsOf b)))) (record { reply = refusal 11; words = wordsOf b })) lawful-now ∙ ap (λ (x : Book). lentOf (f x)) book-back
+
+  pub tap-on : (bytes : List ℕ) → tapOn (wordsOf b) bytes ≡ lentOf (hearTap b bytes)
+  unfolding tapOn
+  tap-on bytes = on-book (λ x. hearTap x bytes)
+
+  pub question-on : (bytes : List ℕ) → questionOn (wordsOf b) bytes ≡ lentOf (hearQuestion b bytes)
+  unfolding questionOn
+  question-on bytes = on-book (λ x. hearQuestion x bytes)
+
+  pub gossip-on : (bytes : List ℕ) → gossipOn (wordsOf b) bytes ≡ lentOf (hearGossip b bytes)
+  unfolding gossipOn
+  gossip-on bytes = on-book (λ x. hearGossip x bytes)
+
+  pub send-on : (out : List ℕ) → sendOn (wordsOf b) out ≡ putFront (bytesOf (send b)) out
+  unfolding sendOn
+  send-on out = ap (λ (c : Bool). cond c (putFront (bytesOf (send (bookOf (wordsOf b)))) out) (refuse 11 out)) lawful-now ∙ ap (λ (x : Book). putFront (bytesOf (send x)) out) book-back
+
+-- a question changes no word
+pub question-keeps : (ws bytes : List ℕ) → questionOn ws bytes .words ≡ ws
+unfolding questionOn
+question-keeps ws bytes = go (lawful ws) refl
+  where
+    kept : (c : Bool) → heard c (bookOf ws) (ask (bookOf ws) (getD (lineOf (questionKind (bookOf ws .screens)) bytes) 1 0) (stampAt 2 (lineOf (questionKind (bookOf ws .screens)) bytes))) .book ≡ bookOf ws
+    kept true = ask-keeps (bookOf ws) (getD (lineOf (questionKind (bookOf ws .screens)) bytes) 1 0) (stampAt 2 (lineOf (questionKind (bookOf ws .screens)) bytes))
+    kept false = refl
+
+    go : (c : Bool) → lawful ws ≡ c → cond c (lentOf (hearQuestion (bookOf ws) bytes)) (record { reply = refusal 11; words = ws }) .words ≡ ws
+    go true e = ap wordsOf (kept (readable (questionKind (bookOf ws .screens)) bytes)) ∙ lawful-held ws (subst T (sym e) tt) .words
+    go false e = refl
+
+-- an answer is settled by the reply that it gives
+answerOf : Reply → answer.Reply
+answerOf (meaning.taken s) = says.Taken (partsAt 0 s)
+answerOf (meaning.already s) = says.Already (partsAt 0 s)
+answerOf (meaning.verdict v h a d s) = says.Verdict v h a d (partsAt 0 s)
+answerOf (meaning.wait bits) = says.Wait bits
+answerOf (meaning.refusal k) = says.Refused k
+answerOf (meaning.gossiped new applied) = says.Gossiped new applied
+
+answer-back : (r : answer.Reply) → answerOf (spoken r) ≡ r
+answer-back (says.Taken s) = ap says.Taken (parts-list s)
+answer-back (says.Already s) = ap says.Already (parts-list s)
+answer-back (says.Verdict v h a d s) = ap (says.Verdict v h a d) (parts-list s)
+answer-back (says.Wait bits) = refl
+answer-back (says.Refused k) = refl
+answer-back (says.Gossiped new applied) = refl
+
+-- for any two outcomes that both satisfy an operation's promise, equality
+pub one-outcome : (o : Lent) (r r′ : answer.Reply) (w w′ : List ℕ) → Promise o r w → Promise o r′ w′ → (r ≡ r′) × (w ≡ w′)
+one-outcome o r r′ w w′ p q = (sym (answer-back r) ∙ ap answerOf (p .answers ∙ sym (q .answers)) ∙ answer-back r′, p .leaves ∙ sym (q .leaves))

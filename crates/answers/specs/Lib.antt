@@ -1,0 +1,3 @@
+pub mod Spoken
+pub mod Lent
+pub mod LentLaws
