@@ -75,7 +75,7 @@ question-keeps ws bytes = go (lawful ws) refl
     go false e = refl
 
 -- an answer is settled by the reply that it gives
-answerOf : Reply → answer.Reply
+abbrev answerOf : Reply → answer.Reply
 answerOf (meaning.taken s) = says.Taken (partsAt 0 s)
 answerOf (meaning.already s) = says.Already (partsAt 0 s)
 answerOf (meaning.verdict v h a d s) = says.Verdict v h a d (partsAt 0 s)
