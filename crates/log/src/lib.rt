@@ -22,7 +22,7 @@ ghost use Rattle.log.specs.Held.{raised, climbed, climb, holdsAll};
 ghost use Rattle.log.specs.First.{firstWith};
 
 // A row's words.
-const ROW: usize = 11;
+pub const ROW: usize = 11;
 
 // Where the words of a row stand; the label is from LABEL to BODY.
 const ORIGIN: usize = 0;
@@ -31,7 +31,7 @@ const NUMBER: usize = 1;
 
 const LABEL: usize = 2;
 
-const BODY: usize = 10;
+pub const BODY: usize = 10;
 
 // A stamp's parts.
 const PARTS: usize = 8;
