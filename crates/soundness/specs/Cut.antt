@@ -5,7 +5,7 @@ use mathlib.Core.Bool.{Bool}
 use mathlib.Core.List.{List}
 use lib.ListN.{getD}
 use Rattle.lists.specs.Part.{mid}
-use Rattle.soundness.specs.Clauses.{piecesSound}
+use Rattle.soundness.specs.Clauses.{pieceRules}
 
 -- the places rise, and lie as far apart as the pieces are long
 pub record Places (t v l c p e long : ℕ) : Type 0 where
@@ -24,6 +24,6 @@ pub record Numbers (ws : List ℕ) : Type 0 where
   pub logged : getD ws 2 0 ≤ 256
   pub taps : getD ws 3 0 ≤ 1024
 
-unfoldable pub cutSound : ℕ → ℕ → ℕ → ℕ → ℕ → ℕ → List ℕ → Bool
-cutSound t v l c p e ws =
-    piecesSound (getD ws 0 0) (getD ws 1 0) (mid t (v - t) ws) (mid v (l - v) ws) (getD ws 2 0) (mid l (c - l) ws) (getD ws 3 0) (mid c (p - c) ws) (mid p (e - p) ws)
+unfoldable pub cutRules : ℕ → ℕ → ℕ → ℕ → ℕ → ℕ → List ℕ → List Bool
+cutRules t v l c p e ws =
+    pieceRules (getD ws 0 0) (getD ws 1 0) (mid t (v - t) ws) (mid v (l - v) ws) (getD ws 2 0) (mid l (c - l) ws) (getD ws 3 0) (mid c (p - c) ws) (mid p (e - p) ws)

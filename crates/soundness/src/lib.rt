@@ -37,7 +37,7 @@ ghost use lib.ListN.{length, drop};
 ghost use Rattle.lists.specs.Order.{rising};
 ghost use Rattle.lists.specs.Part.{mid};
 ghost use Rattle.lists.specs.Rows.{rows};
-ghost use Rattle.lists.specs.Tests.{every};
+ghost use Rattle.lists.specs.Tests.{all, every};
 ghost use Rattle.stamp.specs.Limits.{parts};
 ghost use Rattle.stamp.specs.Stamp.{atMost, total, stampFits};
 ghost use Rattle.tally.specs.Limits.{countLimit};
@@ -51,8 +51,8 @@ ghost use Rattle.counted.specs.Region.{tapsAt};
 ghost use Rattle.prompts.specs.Region.{promptWords, standingsAt};
 ghost use Rattle.book.specs.Book.{countedIn};
 ghost use Rattle.layout.specs.Words.{shaped, lawful};
-ghost use Rattle.soundness.specs.Clauses.{stampsFit, stampsWithin, logSound, countedSound, regionsSound, piecesSound};
-ghost use Rattle.soundness.specs.Cut.{Places, Numbers, cutSound};
+ghost use Rattle.soundness.specs.Clauses.{fitRules, withinRules, logRules, countedRules, regionRules, pieceRules};
+ghost use Rattle.soundness.specs.Cut.{Places, Numbers, cutRules};
 
 // The fewest and the most screens of a house.
 const FEWEST: u64 = 2;
@@ -150,7 +150,7 @@ fn rows_within(table: &[u64], n: usize, known: &[u64]) -> bool
 // Whether the rows and the value stamp are stamps of a house of n screens.
 fn stamps_fit(table: &[u64], n: usize, value: &[u64]) -> bool
     requires { ⌜ n * 8 ≤ length (now table) ⌝ }
-    ensures { λ r. ⌜ r ≡ stampsFit n (rows parts n (now (table .entry))) (now (value .entry)) ⌝ }
+    ensures { λ r. ⌜ r ≡ all (fitRules n (rows parts n (now (table .entry))) (now (value .entry))) ⌝ }
 {
     if !rows_fit(table, n) {
         return false;
@@ -163,7 +163,7 @@ fn stamps_within(table: &[u64], n: usize, value: &[u64], known: &[u64]) -> bool
     requires { ⌜ n * 8 ≤ length (now table) ⌝ }
     requires { ⌜ length (now value) ≡ 8 ⌝ }
     requires { ⌜ T (stampFits n (now known)) ⌝ }
-    ensures { λ r. ⌜ r ≡ stampsWithin (now (known .entry)) (rows parts n (now (table .entry))) (now (value .entry)) ⌝ }
+    ensures { λ r. ⌜ r ≡ all (withinRules (now (known .entry)) (rows parts n (now (table .entry))) (now (value .entry))) ⌝ }
 {
     if BOOK_ROOM < sum(known) {
         return false;
@@ -222,7 +222,7 @@ fn log_sound(
 ) -> bool
     requires { ⌜ count * rowLong ≤ length (now r) ⌝ }
     requires { ⌜ (length (now known) ≡ 8) × (length (now low) ≡ 8) × (length (now value) ≡ 8) × (n ≤ 8) ⌝ }
-    ensures { λ b. ⌜ b ≡ logSound n (now (known .entry)) (now (low .entry)) (now (value .entry)) (recordsAt count (now (r .entry))) ⌝ }
+    ensures { λ b. ⌜ b ≡ all (logRules n (now (known .entry)) (now (low .entry)) (now (value .entry)) (recordsAt count (now (r .entry)))) ⌝ }
 {
     if !rising_rows(r, count) {
         return false;
@@ -292,7 +292,7 @@ fn counted_sound(
     requires { ⌜ count * rowLong ≤ length (now r) ⌝ }
     requires { ⌜ T (stampFits n (now known)) ⌝ }
     requires { ⌜ (taps ≤ length (now counted)) × (taps < countLimit) × (count < countLimit) ⌝ }
-    ensures { λ b. ⌜ b ≡ countedSound (now (known .entry)) (recordsAt count (now (r .entry))) (tapsAt taps (now (counted .entry))) ⌝ }
+    ensures { λ b. ⌜ b ≡ all (countedRules (now (known .entry)) (recordsAt count (now (r .entry))) (tapsAt taps (now (counted .entry)))) ⌝ }
 {
     if !rising_words(counted, taps) {
         return false;
@@ -321,7 +321,7 @@ fn regions_sound(
     requires { ⌜ (n * 8 ≤ length (now table)) × (n ≤ 8) × (length (now value) ≡ 8) × T (stampFits n (now known)) ⌝ }
     requires { ⌜ (logged * rowLong ≤ length (now log)) × (logged < countLimit) ⌝ }
     requires { ⌜ (taps ≤ length (now counted)) × (taps < countLimit) × (length (now prompts) ≡ promptWords) ⌝ }
-    ensures { λ r. ⌜ r ≡ regionsSound n (now (known .entry)) (rows parts n (now (table .entry))) (now (value .entry)) (recordsAt logged (now (log .entry))) (tapsAt taps (now (counted .entry))) (standingsAt (now (prompts .entry))) ⌝ }
+    ensures { λ r. ⌜ r ≡ all (regionRules n (now (known .entry)) (rows parts n (now (table .entry))) (now (value .entry)) (recordsAt logged (now (log .entry))) (tapsAt taps (now (counted .entry))) (standingsAt (now (prompts .entry)))) ⌝ }
 {
     if !stamps_within(table, n, value, known) {
         return false;
@@ -351,7 +351,7 @@ fn pieces_sound(
     requires { ⌜ (n * 8 ≤ length (now table)) × (n ≤ 8) × (i < n) × (length (now value) ≡ 8) ⌝ }
     requires { ⌜ (logged * rowLong ≤ length (now log)) × (logged < countLimit) ⌝ }
     requires { ⌜ (taps ≤ length (now counted)) × (taps < countLimit) × (length (now prompts) ≡ promptWords) ⌝ }
-    ensures { λ r. ⌜ r ≡ piecesSound i n (now (table .entry)) (now (value .entry)) logged (now (log .entry)) taps (now (counted .entry)) (now (prompts .entry)) ⌝ }
+    ensures { λ r. ⌜ r ≡ all (pieceRules i n (now (table .entry)) (now (value .entry)) logged (now (log .entry)) taps (now (counted .entry)) (now (prompts .entry))) ⌝ }
 {
     if !stamps_fit(table, n, value) {
         return false;
@@ -365,7 +365,7 @@ fn pieces_sound(
 fn cut_sound(b: &[u64], t: usize, v: usize, l: usize, c: usize, p: usize, e: usize) -> bool
     requires { ⌜ Places t v l c p e (length (now b)) ⌝ }
     requires { ⌜ Numbers (now b) ⌝ }
-    ensures { λ r. ⌜ r ≡ cutSound t v l c p e (now (b .entry)) ⌝ }
+    ensures { λ r. ⌜ r ≡ all (cutRules t v l c p e (now (b .entry))) ⌝ }
 {
     let i = b[SCREEN] as usize;
     let n = b[SCREENS] as usize;
