@@ -8,7 +8,8 @@ use mathlib.Core.List.{List, [], _∷_, map}
 use lib.Dec.{T, ltb}
 use lib.ListN.{length, take, drop, getD}
 use lib.Seq.{drop-drop, take-all}
-use Rattle.lists.specs.Facts.{all-at}
+use Rattle.lists.specs.Facts.{all-at, every-getD}
+use Rattle.lists.specs.RowLaws.{length-rows, rows-at}
 use Rattle.lists.specs.Rows.{rows}
 use Rattle.lists.specs.Tests.{all, every}
 use Rattle.stamp.specs.Limits.{parts, word}
@@ -76,3 +77,10 @@ module _ (n : ℕ) (s : Stamp) (t : T (stampFits n s)) where
 -- a stamp read as a value and laid out again
 pub copied : (s : Stamp) → length s ≡ 8 → listOf (partsAt 0 s) ≡ s
 copied s h = list-parts 0 s (omega arith) ∙ take-all 8 s (omega arith)
+
+-- row i of a table whose rows fit, as it is lent
+pub row-fits : (i n : ℕ) (table : List ℕ) → i < n → T (every (stampFits n) (rows parts n table)) → T (stampFits n (take (i * 8 + 8 - i * 8) (drop (i * 8) table)))
+unfolding parts
+row-fits i n table h t =
+    let e : i * 8 + 8 - i * 8 ≡ 8 = omega arith in
+    rw (e, ← rows-at 8 n table i h) (every-getD (stampFits n) (rows 8 n table) [] t i (omega (arith, length-rows 8 n table)))
