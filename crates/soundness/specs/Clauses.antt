@@ -56,8 +56,8 @@ regionRules n known table value log counted prompts =
     ∷ []
 
 -- all of it on the pieces behind the numbers
-unfoldable pub pieceRules : ℕ → ℕ → List ℕ → List ℕ → ℕ → List ℕ → ℕ → List ℕ → List ℕ → List Bool
-pieceRules i n table value logged log taps counted prompts =
+unfoldable pub pieceRules : List ℕ → ℕ → ℕ → List ℕ → List ℕ → ℕ → List ℕ → ℕ → List ℕ → List Bool
+pieceRules table i n value log logged counted taps prompts =
     all (fitRules n (rows parts n table) value)
     ∷ all (regionRules n (take parts (drop (i * parts) table)) (rows parts n table) value (recordsAt logged log) (tapsAt taps counted) (standingsAt prompts))
     ∷ []

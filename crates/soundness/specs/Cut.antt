@@ -26,4 +26,4 @@ pub record Numbers (ws : List ℕ) : Type 0 where
 
 unfoldable pub cutRules : ℕ → ℕ → ℕ → ℕ → ℕ → ℕ → List ℕ → List Bool
 cutRules t v l c p e ws =
-    pieceRules (getD ws 0 0) (getD ws 1 0) (mid t (v - t) ws) (mid v (l - v) ws) (getD ws 2 0) (mid l (c - l) ws) (getD ws 3 0) (mid c (p - c) ws) (mid p (e - p) ws)
+    pieceRules (mid t (v - t) ws) (getD ws 0 0) (getD ws 1 0) (mid v (l - v) ws) (mid l (c - l) ws) (getD ws 2 0) (mid c (p - c) ws) (getD ws 3 0) (mid p (e - p) ws)

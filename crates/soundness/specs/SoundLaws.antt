@@ -1,36 +1,33 @@
 -- Laws: what is tested is what soundness says. The limit on each prompt's two counts follows from the others. Assumes nothing.
 --     sound-is        a book whose numbers are in range is sound exactly when its groups of clauses hold
 --     lawful-pieces   words of the right shape, their numbers in range, are sound exactly when their pieces pass
-use Prim.Native.Nat.{ℕ, zero, suc, _≤_, _<_, _+_, _*_}
+use Prim.Native.Nat.{ℕ, zero, suc, _≤_, _<_, _+_}
 use native.Mathlib.Omega.{arith}
-use mathlib.Core.Path.{_≡_, refl, sym, ap, subst, _∙_}
+use mathlib.Core.Path.{_≡_, sym, ap, subst, _∙_}
 use mathlib.Core.Bool.{Bool, true, false, not, _&&_, _||_, and-false}
 use mathlib.Core.List.{List, [], _∷_}
 use lib.Dec.{T, leb, leb→le, le→leb}
-use lib.ListN.{length, getD, take, drop}
-use Rattle.lists.specs.Facts.{_∈_, here, there, is-true, and-l, and-r, both, all-at, all-from, _also_, done, every-from, every-getD, same-test}
+use lib.ListN.{length, getD}
+use Rattle.lists.specs.Facts.{_∈_, here, there, and-l, and-r, both, all-at, all-from, _also_, done, every-from, same-test}
 use Rattle.lists.specs.MoreFacts.{eq→eqb, every-same}
-use Rattle.lists.specs.Order.{rising}
 use Rattle.lists.specs.RowLaws.{length-rows, rows-at}
-use Rattle.lists.specs.Rows.{rows}
 use Rattle.lists.specs.Tests.{all, every}
 use Rattle.stamp.specs.Limits.{parts}
-use Rattle.stamp.specs.Stamp.{Stamp, stampFits, total, atMost}
-use Rattle.tally.specs.Standing.{afresh, sameCounts}
+use Rattle.stamp.specs.Stamp.{Stamp, total, atMost}
+use Rattle.tally.specs.Standing.{afresh}
 use Rattle.tally.specs.StandingLaws.{counts-same, afresh-few}
-use Rattle.tally.specs.Tap.{fields, tapFits, bodyFits}
+use Rattle.tally.specs.Tap.{bodyFits}
 use Rattle.tally.specs.declared.Standing.{Standing}
-use Rattle.ledger.specs.Limits.{logRoom, bookRoom}
-use Rattle.ledger.specs.Log.{allHeld, waitingIn}
+use Rattle.ledger.specs.Limits.{logRoom}
+use Rattle.ledger.specs.Log.{allHeld}
 use Rattle.ledger.specs.Message.{inRange}
-use Rattle.ledger.specs.Record.{Record, place, isKnown, isApplied, mayGo, recordFits, stampOf}
+use Rattle.ledger.specs.Record.{isKnown, isApplied, mayGo, recordFits, stampOf}
 use Rattle.ledger.specs.RecordLaws.{range-me}
 use Rattle.log.specs.Held.{holdsAll, allHeld-climb}
 use Rattle.log.specs.Lowest.{lowestFrom, goesBy, mayGo-lowest}
-use Rattle.log.specs.Region.{recordsAt}
 use Rattle.log.specs.RegionLaws.{length-records}
 use Rattle.log.specs.RowSound.{rowSound, rowsSound-is, recordFits-is}
-use Rattle.book.specs.Book.{Book, known, row, waiting, countedIn, clauses, sound}
+use Rattle.book.specs.Book.{Book, known, row, waiting, clauses, sound}
 use Rattle.layout.specs.Words.{bookOf, piece, shaped, lawful}
 use Rattle.layout.specs.WordsLaws.{log-few}
 use Rattle.soundness.specs.Clauses.{fitRules, withinRules, logRules, countedRules, regionRules, pieceRules}
@@ -167,7 +164,7 @@ module _ (ws : List ℕ) where
 
   pub lawful-pieces :
       shaped ws ≡ true → inRange (getD ws 0 0) (getD ws 1 0) ≡ true
-      → lawful ws ≡ all (pieceRules (getD ws 0 0) (getD ws 1 0) (piece 1 ws) (piece 2 ws) (getD ws 2 0) (piece 3 ws) (getD ws 3 0) (piece 4 ws) (piece 5 ws))
+      → lawful ws ≡ all (pieceRules (piece 1 ws) (getD ws 0 0) (getD ws 1 0) (piece 2 ws) (piece 3 ws) (getD ws 2 0) (piece 4 ws) (getD ws 3 0) (piece 5 ws))
   unfolding lawful bookOf pieceRules known row
   lawful-pieces e f =
       let range = subst T (sym f) tt in

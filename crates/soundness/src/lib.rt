@@ -32,13 +32,13 @@ use tally::unpack;
 ghost use mathlib.Core.Path.{_≡_};
 ghost use mathlib.Core.Bool.{not, _||_};
 ghost use Prim.Native.Nat.{_+_, _-_, _*_, _≤_, _<_};
-ghost use lib.Dec.{T, eqb, leb};
+ghost use lib.Dec.{T, eqb, leb, ltb};
 ghost use lib.ListN.{length, drop};
 ghost use Rattle.lists.specs.Order.{rising};
 ghost use Rattle.lists.specs.Part.{mid};
 ghost use Rattle.lists.specs.Rows.{rows};
 ghost use Rattle.lists.specs.Tests.{all, every};
-ghost use Rattle.stamp.specs.Limits.{parts};
+ghost use Rattle.stamp.specs.Limits.{parts, word};
 ghost use Rattle.stamp.specs.Stamp.{atMost, total, stampFits};
 ghost use Rattle.tally.specs.Limits.{countLimit};
 ghost use Rattle.tally.specs.Tap.{bodyFits};
@@ -161,8 +161,8 @@ fn stamps_fit(table: &[u64], n: usize, value: &[u64]) -> bool
 // Whether the known stamp is within the book's room, and no row and not the value stamp exceeds it.
 fn stamps_within(table: &[u64], n: usize, value: &[u64], known: &[u64]) -> bool
     requires { ⌜ n * 8 ≤ length (now table) ⌝ }
-    requires { ⌜ length (now value) ≡ 8 ⌝ }
-    requires { ⌜ T (stampFits n (now known)) ⌝ }
+    requires { ⌜ (length (now value) ≡ 8) × (length (now known) ≡ 8) ⌝ }
+    requires { ⌜ T (every (λ x. ltb x word) (now known)) ⌝ }
     ensures { λ r. ⌜ r ≡ all (withinRules (now (known .entry)) (rows parts n (now (table .entry))) (now (value .entry))) ⌝ }
 {
     if BOOK_ROOM < sum(known) {
@@ -212,14 +212,7 @@ fn body_fits(row: &[u64]) -> bool
 }
 
 // What soundness asks of the log alone: `low` is the lowest stamp of the table.
-fn log_sound(
-    r: &[u64],
-    count: usize,
-    n: usize,
-    known: &[u64],
-    low: &[u64],
-    value: &[u64],
-) -> bool
+fn log_sound(r: &[u64], count: usize, n: usize, known: &[u64], low: &[u64], value: &[u64]) -> bool
     requires { ⌜ count * rowLong ≤ length (now r) ⌝ }
     requires { ⌜ (length (now known) ≡ 8) × (length (now low) ≡ 8) × (length (now value) ≡ 8) × (n ≤ 8) ⌝ }
     ensures { λ b. ⌜ b ≡ all (logRules n (now (known .entry)) (now (low .entry)) (now (value .entry)) (recordsAt count (now (r .entry)))) ⌝ }
@@ -270,9 +263,9 @@ fn rows_counted(r: &[u64], count: usize, known: &[u64], counted: &[u64], taps: u
 }
 
 // Whether the counted taps and the waiting records together are at most the known records.
-fn few_enough(r: &[u64], count: usize, n: usize, known: &[u64], taps: usize) -> bool
+fn few_enough(r: &[u64], count: usize, known: &[u64], taps: usize) -> bool
     requires { ⌜ count * rowLong ≤ length (now r) ⌝ }
-    requires { ⌜ T (stampFits n (now known)) ⌝ }
+    requires { ⌜ (length (now known) ≡ 8) × T (every (λ x. ltb x word) (now known)) ⌝ }
     requires { ⌜ (taps < countLimit) × (count < countLimit) ⌝ }
     ensures { λ b. ⌜ b ≡ leb (taps + length (waitingIn (now (known .entry)) (recordsAt count (now (r .entry))))) (total (now (known .entry))) ⌝ }
 {
@@ -281,16 +274,9 @@ fn few_enough(r: &[u64], count: usize, n: usize, known: &[u64], taps: usize) -> 
 }
 
 // What soundness asks of the counted taps.
-fn counted_sound(
-    counted: &[u64],
-    taps: usize,
-    r: &[u64],
-    count: usize,
-    n: usize,
-    known: &[u64],
-) -> bool
+fn counted_sound(counted: &[u64], taps: usize, r: &[u64], count: usize, known: &[u64]) -> bool
     requires { ⌜ count * rowLong ≤ length (now r) ⌝ }
-    requires { ⌜ T (stampFits n (now known)) ⌝ }
+    requires { ⌜ (length (now known) ≡ 8) × T (every (λ x. ltb x word) (now known)) ⌝ }
     requires { ⌜ (taps ≤ length (now counted)) × (taps < countLimit) × (count < countLimit) ⌝ }
     ensures { λ b. ⌜ b ≡ all (countedRules (now (known .entry)) (recordsAt count (now (r .entry))) (tapsAt taps (now (counted .entry)))) ⌝ }
 {
@@ -303,14 +289,14 @@ fn counted_sound(
     if !rows_counted(r, count, known, counted, taps) {
         return false;
     }
-    few_enough(r, count, n, known, taps)
+    few_enough(r, count, known, taps)
 }
 
 // What is left once the stamps fit.
 fn regions_sound(
-    known: &[u64],
     table: &[u64],
     n: usize,
+    known: &[u64],
     value: &[u64],
     log: &[u64],
     logged: usize,
@@ -318,7 +304,8 @@ fn regions_sound(
     taps: usize,
     prompts: &[u64],
 ) -> bool
-    requires { ⌜ (n * 8 ≤ length (now table)) × (n ≤ 8) × (length (now value) ≡ 8) × T (stampFits n (now known)) ⌝ }
+    requires { ⌜ (n * 8 ≤ length (now table)) × (n ≤ 8) × (length (now value) ≡ 8) ⌝ }
+    requires { ⌜ (length (now known) ≡ 8) × T (every (λ x. ltb x word) (now known)) ⌝ }
     requires { ⌜ (logged * rowLong ≤ length (now log)) × (logged < countLimit) ⌝ }
     requires { ⌜ (taps ≤ length (now counted)) × (taps < countLimit) × (length (now prompts) ≡ promptWords) ⌝ }
     ensures { λ r. ⌜ r ≡ all (regionRules n (now (known .entry)) (rows parts n (now (table .entry))) (now (value .entry)) (recordsAt logged (now (log .entry))) (tapsAt taps (now (counted .entry))) (standingsAt (now (prompts .entry)))) ⌝ }
@@ -330,7 +317,7 @@ fn regions_sound(
     if !log_sound(log, logged, n, known, &low, value) {
         return false;
     }
-    if !counted_sound(counted, taps, log, logged, n, known) {
+    if !counted_sound(counted, taps, log, logged, known) {
         return false;
     }
     counts_follow(prompts, counted, taps)
@@ -338,30 +325,40 @@ fn regions_sound(
 
 // The clauses on the five pieces behind the numbers: the known stamp is row i of the table.
 fn pieces_sound(
+    table: &[u64],
     i: usize,
     n: usize,
-    table: &[u64],
     value: &[u64],
-    logged: usize,
     log: &[u64],
-    taps: usize,
+    logged: usize,
     counted: &[u64],
+    taps: usize,
     prompts: &[u64],
 ) -> bool
     requires { ⌜ (n * 8 ≤ length (now table)) × (n ≤ 8) × (i < n) × (length (now value) ≡ 8) ⌝ }
     requires { ⌜ (logged * rowLong ≤ length (now log)) × (logged < countLimit) ⌝ }
     requires { ⌜ (taps ≤ length (now counted)) × (taps < countLimit) × (length (now prompts) ≡ promptWords) ⌝ }
-    ensures { λ r. ⌜ r ≡ all (pieceRules i n (now (table .entry)) (now (value .entry)) logged (now (log .entry)) taps (now (counted .entry)) (now (prompts .entry))) ⌝ }
+    ensures { λ r. ⌜ r ≡ all (pieceRules (now (table .entry)) i n (now (value .entry)) (now (log .entry)) logged (now (counted .entry)) taps (now (prompts .entry))) ⌝ }
 {
     if !stamps_fit(table, n, value) {
         return false;
     }
     let at = i * PARTS;
     let e = at + PARTS;
-    regions_sound(&table[at..e], table, n, value, log, logged, counted, taps, prompts)
+    regions_sound(
+        table,
+        n,
+        &table[at..e],
+        value,
+        log,
+        logged,
+        counted,
+        taps,
+        prompts,
+    )
 }
 
-// The same on a whole slice, with the places as parameters: t, v, l, c, p are where the pieces start.
+// The same on the whole slice. The pieces' places are parameters, so that no proof computes with a large number.
 fn cut_sound(b: &[u64], t: usize, v: usize, l: usize, c: usize, p: usize, e: usize) -> bool
     requires { ⌜ Places t v l c p e (length (now b)) ⌝ }
     requires { ⌜ Numbers (now b) ⌝ }
@@ -371,7 +368,17 @@ fn cut_sound(b: &[u64], t: usize, v: usize, l: usize, c: usize, p: usize, e: usi
     let n = b[SCREENS] as usize;
     let logged = b[LOGGED] as usize;
     let taps = b[COUNTED_TAPS] as usize;
-    pieces_sound(i, n, &b[t..v], &b[v..l], logged, &b[l..c], taps, &b[c..p], &b[p..e])
+    pieces_sound(
+        &b[t..v],
+        i,
+        n,
+        &b[v..l],
+        &b[l..c],
+        logged,
+        &b[c..p],
+        taps,
+        &b[p..e],
+    )
 }
 
 // Whether the slice, of any length, holds a sound book.

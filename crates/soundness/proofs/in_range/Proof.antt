@@ -4,23 +4,17 @@ use mathlib.Core.Bool.{and-true}
 use borrow.Author.Tests.{le-leb, lt-leb}
 use Rattle.ledger.specs.Limits.{fewest, most}
 use Rattle.ledger.specs.Message.{inRange}
-use borrow.Author.Needs.{needs}
 use Rattle.soundness.proofs.in_range.Statement.{statement}
 use Rattle.soundness.proofs.in_range.Tie as tie
-use Rattle.soundness.proofs.in_range.Reads as reads
-use Rattle.soundness.proofs.in_range.Lts as lts
 
--- src/lib.rt:68:1
 returns : tie.Need-returns
 unfolding inRange fewest most
 returns c = let s = c .before .before .args in simp (le-leb 2 (s .n) (omega arith), le-leb (s .n) 8 (omega arith), and-true)
 
--- src/lib.rt:68:1
 returns-2 : tie.Need-returns-2
 unfolding inRange fewest most
 returns-2 c = simp (lt-leb 2 (c .before .args .n) (omega arith))
 
--- src/lib.rt:68:1
 returns-3 : tie.Need-returns-3
 unfolding inRange fewest most
 returns-3 c = let n = c .before .before .args .n in simp (le-leb 2 n (omega arith), lt-leb n 8 (omega arith))

@@ -6,20 +6,14 @@ use mathlib.Core.Bool.{not, _||_}
 use borrow.Author.Tests.{not-true, not-false}
 use Rattle.lists.specs.Rows.{rows}
 use Rattle.lists.specs.Tests.{every}
-use Rattle.stamp.specs.Limits.{parts}
-use Rattle.stamp.specs.Stamp.{atMost, stampFits}
-use Rattle.tally.specs.Tap.{bodyFits}
-use Rattle.ledger.specs.Record.{Record, isApplied}
+use Rattle.ledger.specs.Record.{isApplied}
 use Rattle.log.specs.Region.{rowLong, recordAt, recordsAt}
 use Rattle.counted.specs.Region.{tapsAt}
 use Rattle.book.specs.Book.{countedIn}
-use Rattle.soundness.proofs.Turn.{everyFrom, rows-all, records-all, rows-on, rows-off, rows-end}
+use Rattle.soundness.proofs.Turn.{everyFrom, records-all, rows-on, rows-off, rows-end}
 use borrow.Author.Needs.{needs}
 use Rattle.soundness.proofs.rows_counted.Statement.{statement}
 use Rattle.soundness.proofs.rows_counted.Tie as tie
-use Rattle.soundness.proofs.rows_counted.Reads as reads
-use Rattle.soundness.proofs.rows_counted.Lts as lts
-use Rattle.soundness.proofs.row_counted.Reads as row-counted-reads
 
 abbrev Inv-loop : tie.InvT-loop
 Inv-loop r count known counted taps i₀ at₀ i at = (i ≤ count) × (at ≡ i * rowLong) × (every (λ x. not (isApplied known x) || countedIn (tapsAt taps counted) x) (recordsAt count r) ≡ everyFrom (λ x. not (isApplied known (recordAt x)) || countedIn (tapsAt taps counted) (recordAt x)) rowLong count r i at)
@@ -27,57 +21,21 @@ Inv-loop r count known counted taps i₀ at₀ i at = (i ≤ count) × (at ≡ i
 abbrev μ-loop : tie.MeasureT-loop
 μ-loop r count known counted taps i₀ at₀ i at = count - i
 
--- src/lib.rt:261:5
 loop-holds : tie.Need-loop-holds Inv-loop μ-loop
 loop-holds c = (omega arith, refl, records-all (λ x. not (isApplied _ x) || countedIn _ x) _ _)
 
--- src/lib.rt:262:17
-add-e : tie.Need-add-e Inv-loop μ-loop
-add-e c = search needs
-
--- src/lib.rt:263:25
-mul-row-counted : tie.Need-mul-row-counted Inv-loop μ-loop
-mul-row-counted c = search needs
-
--- src/lib.rt:263:25
-sub-row-counted : tie.Need-sub-row-counted Inv-loop μ-loop
-sub-row-counted c = search needs
-
--- src/lib.rt:263:25
-part-row-counted-start : tie.Need-part-row-counted-start Inv-loop μ-loop
-part-row-counted-start c = search needs
-
--- src/lib.rt:263:25
-part-row-counted-end : tie.Need-part-row-counted-end Inv-loop μ-loop
-part-row-counted-end c = search needs
-
--- src/lib.rt:263:13
-row-counted-requires : tie.Need-row-counted-requires Inv-loop μ-loop
-row-counted-requires c κs = search needs
-
--- src/lib.rt:264:13
 returns : tie.Need-returns Inv-loop μ-loop
 returns c =
     let l = c .before .before .before .before in
     let s = l .before .before .before .before .args in
     sym (l .loop .inv .2 ∙ rows-off (λ x. not (isApplied (s .known .now) (recordAt x)) || countedIn (tapsAt (s .taps) (s .counted .now)) (recordAt x)) rowLong (s .count) (s .r .now) (l .loop .i) (l .loop .at) (omega arith) (sym (c .before .row-counted .ensures) ∙ not-true _ (c .if1 .taken)))
 
--- src/lib.rt:267:9
-add-i : tie.Need-add-i Inv-loop μ-loop
-add-i c = search needs
-
--- src/lib.rt:261:5
-loop-less : tie.Need-loop-less Inv-loop μ-loop
-loop-less c = search needs
-
--- src/lib.rt:261:5
 loop-again : tie.Need-loop-again Inv-loop μ-loop
 loop-again c =
     let l = c .before .before .before .before in
     let s = l .before .before .before .before .args in
     (omega arith, omega arith, l .loop .inv .2 ∙ rows-on (λ x. not (isApplied (s .known .now) (recordAt x)) || countedIn (tapsAt (s .taps) (s .counted .now)) (recordAt x)) rowLong (s .count) (s .r .now) (l .loop .i) (l .loop .at) (omega arith) (sym (c .before .row-counted .ensures) ∙ not-false _ (c .if1 .left)))
 
--- src/lib.rt:253:1
 returns-2 : tie.Need-returns-2 Inv-loop μ-loop
 returns-2 c =
     let l = c .before in
@@ -91,14 +49,14 @@ rows-counted-spec =
     Inv-loop
     μ-loop
     loop-holds
-    add-e
-    mul-row-counted
-    sub-row-counted
-    part-row-counted-start
-    part-row-counted-end
-    row-counted-requires
+    (λ c. search needs)
+    (λ c. search needs)
+    (λ c. search needs)
+    (λ c. search needs)
+    (λ c. search needs)
+    (λ c κs. search needs)
     returns
-    add-i
-    loop-less
+    (λ c. search needs)
+    (λ c. search needs)
     loop-again
     returns-2)

@@ -9,73 +9,31 @@ use Rattle.soundness.proofs.Turn.{all-off}
 use borrow.Author.Needs.{needs}
 use Rattle.soundness.proofs.shaped.Statement.{statement}
 use Rattle.soundness.proofs.shaped.Tie as tie
-use Rattle.soundness.proofs.shaped.Reads as reads
-use Rattle.soundness.proofs.shaped.Lts as lts
-use Rattle.soundness.proofs.zero_past.Reads as zero-past-reads
 
--- src/lib.rt:90:9
 returns : tie.Need-returns
 unfolding shaped
 returns c = sym (all-off (shapeRules (c .before .before .args .b .now)) 0 (ne-eqb _ _ (c .if1 .taken)))
 
--- src/lib.rt:92:13
-shared-slice-read-n : tie.Need-shared-slice-read-n
-shared-slice-read-n c = search needs
-
--- src/lib.rt:93:18
-shared-slice-read-logged : tie.Need-shared-slice-read-logged
-shared-slice-read-logged c = search needs
-
--- src/lib.rt:94:16
-shared-slice-read-taps : tie.Need-shared-slice-read-taps
-shared-slice-read-taps c = search needs
-
--- src/lib.rt:96:9
 returns-2 : tie.Need-returns-2
 unfolding shaped most
 returns-2 c = sym (all-off (shapeRules (c .before .before .before .before .before .before .args .b .now)) 1 (lt-leb _ _ (c .if2 .taken)))
 
--- src/lib.rt:99:9
 returns-3 : tie.Need-returns-3
 unfolding shaped logRoom
 returns-3 c = sym (all-off (shapeRules (c .before .before .before .before .before .before .before .args .b .now)) 2 (lt-leb _ _ (c .if3 .taken)))
 
--- src/lib.rt:102:9
 returns-4 : tie.Need-returns-4
 unfolding shaped bookRoom
 returns-4 c = sym (all-off (shapeRules (c .before .before .before .before .before .before .before .before .args .b .now)) 3 (lt-leb _ _ (c .if4 .taken)))
 
--- src/lib.rt:104:36
-mul-zero-past : tie.Need-mul-zero-past
-mul-zero-past c = search needs
-
--- src/lib.rt:104:9
-zero-past-requires : tie.Need-zero-past-requires
-zero-past-requires c κs = search needs
-
--- src/lib.rt:105:9
 returns-5 : tie.Need-returns-5
 unfolding shaped parts
 returns-5 c = sym (all-off (shapeRules (c .before .before .before .before .before .before .before .before .before .before .args .b .now)) 4 (sym (c .before .zero-past .ensures) ∙ not-true _ (c .if5 .taken)))
 
--- src/lib.rt:107:36
-mul-zero-past-2 : tie.Need-mul-zero-past-2
-mul-zero-past-2 c = search needs
-
--- src/lib.rt:107:9
-zero-past-requires-2 : tie.Need-zero-past-requires-2
-zero-past-requires-2 c κs = search needs
-
--- src/lib.rt:108:9
 returns-6 : tie.Need-returns-6
 unfolding shaped
 returns-6 c = sym (all-off (shapeRules (c .before .before .before .before .before .before .before .before .before .before .before .before .args .b .now)) 5 (sym (c .before .zero-past2 .ensures) ∙ not-true _ (c .if6 .taken)))
 
--- src/lib.rt:110:5
-zero-past-requires-3 : tie.Need-zero-past-requires-3
-zero-past-requires-3 c κs = search needs
-
--- src/lib.rt:86:1
 returns-7 : tie.Need-returns-7
 unfolding shaped parts most logRoom bookRoom
 returns-7 c =
@@ -91,17 +49,17 @@ shaped-spec =
     tie.close
     (tie.spec
     returns
-    shared-slice-read-n
-    shared-slice-read-logged
-    shared-slice-read-taps
+    (λ c. search needs)
+    (λ c. search needs)
+    (λ c. search needs)
     returns-2
     returns-3
     returns-4
-    mul-zero-past
-    zero-past-requires
+    (λ c. search needs)
+    (λ c κs. search needs)
     returns-5
-    mul-zero-past-2
-    zero-past-requires-2
+    (λ c. search needs)
+    (λ c κs. search needs)
     returns-6
-    zero-past-requires-3
+    (λ c κs. search needs)
     returns-7)

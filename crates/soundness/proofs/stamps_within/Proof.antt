@@ -1,61 +1,39 @@
 -- `soundness::stamps_within` meets its contract: the three rules, in their order. Assumes nothing.
-use mathlib.Core.Path.{_≡_, sym, ap, subst, _∙_}
-use mathlib.Core.Bool.{true, and-true}
+use mathlib.Core.Path.{sym, _∙_}
+use mathlib.Core.Bool.{and-true}
 use native.Mathlib.Omega.{arith}
-use lib.Dec.{T, leb}
 use borrow.Author.Tests.{le-leb, lt-leb, not-true, not-false}
 use Rattle.lists.specs.Rows.{rows}
-use Rattle.lists.specs.Tests.{all, every}
 use Rattle.stamp.specs.Limits.{parts}
 use Rattle.ledger.specs.Limits.{bookRoom}
-use Rattle.soundness.specs.Clauses.{fitRules, withinRules, logRules, countedRules, regionRules, pieceRules}
-use Rattle.soundness.proofs.Turn.{all-off, fits-long, fits-words, row-fits}
+use Rattle.soundness.specs.Clauses.{withinRules}
+use Rattle.soundness.proofs.Turn.{all-off, fits-long, fits-words}
 use borrow.Author.Needs.{needs}
 use Rattle.soundness.proofs.stamps_within.Statement.{statement}
 use Rattle.soundness.proofs.stamps_within.Tie as tie
-use Rattle.soundness.proofs.stamps_within.Reads as reads
-use Rattle.soundness.proofs.stamps_within.Lts as lts
-use Rattle.soundness.proofs.rows_within.Reads as rows-within-reads
-use Rattle.stamp.proofs.at_most.Reads as at-most-reads
-use Rattle.stamp.proofs.sum.Reads as sum-reads
 
--- src/lib.rt:168:20
 sum-requires : tie.Need-sum-requires
 unfolding parts
-sum-requires c κs =
-    let s = c .before .before .before in
-    let h = fits-long (s .args .n) (s .args .known .now) (s .pre .1 .1) in
-    (omega arith, fits-words (s .args .n) (s .args .known .now) (s .pre .1 .1))
+sum-requires c κs = search needs
 
--- src/lib.rt:169:9
 returns : tie.Need-returns
 unfolding withinRules bookRoom
 returns c =
     let s = c .before .before .before .before .before .args in
     sym (all-off (withinRules (s .known .now) (rows parts (s .n) (s .table .now)) (s .value .now)) 0 (lt-leb _ _ (rw (c .before .sum .ensures) at (c .if1 .taken))))
 
--- src/lib.rt:171:9
 rows-within-requires : tie.Need-rows-within-requires
-rows-within-requires c κs =
-    let s = c .before .before .before .before .before in
-    let h = fits-long (s .args .n) (s .args .known .now) (s .pre .1 .1) in
-    search needs
+rows-within-requires c κs = search needs
 
--- src/lib.rt:172:9
 returns-2 : tie.Need-returns-2
 unfolding withinRules
 returns-2 c =
     let s = c .before .before .before .before .before .before .before .args in
     sym (all-off (withinRules (s .known .now) (rows parts (s .n) (s .table .now)) (s .value .now)) 1 (sym (c .before .rows-within .ensures) ∙ not-true _ (c .if2 .taken)))
 
--- src/lib.rt:174:5
 at-most-requires : tie.Need-at-most-requires
-at-most-requires c κs =
-    let s = c .before .before .before .before .before .before .before in
-    let h = fits-long (s .args .n) (s .args .known .now) (s .pre .1 .1) in
-    search needs
+at-most-requires c κs = search needs
 
--- src/lib.rt:162:1
 returns-3 : tie.Need-returns-3
 unfolding withinRules bookRoom
 returns-3 c =
