@@ -34,7 +34,6 @@ ghost use mathlib.Core.Bool.{not, _||_};
 ghost use Prim.Native.Nat.{_+_, _-_, _*_, _≤_, _<_};
 ghost use lib.Dec.{T, eqb, leb, ltb};
 ghost use lib.ListN.{length, drop};
-ghost use Rattle.lists.specs.Order.{rising};
 ghost use Rattle.lists.specs.Part.{mid};
 ghost use Rattle.lists.specs.Rows.{rows};
 ghost use Rattle.lists.specs.Tests.{all, every};

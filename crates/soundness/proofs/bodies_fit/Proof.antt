@@ -3,7 +3,6 @@ use Prim.Native.Nat.{_≤_, _-_, _*_}
 use native.Mathlib.Omega.{arith}
 use mathlib.Core.Path.{_≡_, refl, sym, _∙_}
 use borrow.Author.Tests.{not-true, not-false}
-use Rattle.lists.specs.Rows.{rows}
 use Rattle.lists.specs.Tests.{every}
 use Rattle.tally.specs.Tap.{bodyFits}
 use Rattle.ledger.specs.Record.{Record}

@@ -6,7 +6,7 @@ use Rattle.log.specs.Region.{recordsAt}
 use Rattle.counted.specs.Region.{tapsAt}
 use Rattle.counted.specs.RegionLaws.{length-taps}
 use Rattle.soundness.specs.Clauses.{countedRules}
-use Rattle.soundness.proofs.Turn.{all-off, fits-long}
+use Rattle.soundness.proofs.Turn.{all-off}
 use borrow.Author.Needs.{needs}
 use Rattle.soundness.proofs.counted_sound.Statement.{statement}
 use Rattle.soundness.proofs.counted_sound.Tie as tie
@@ -22,9 +22,6 @@ unfolding countedRules
 returns-2 c =
     let s = c .before .before .before .before .before .before .before .args in
     sym (all-off (countedRules (s .known .now) (recordsAt (s .count) (s .r .now)) (tapsAt (s .taps) (s .counted .now))) 1 (sym (c .before .all-fit .ensures) ∙ not-true _ (c .if2 .taken)))
-
-rows-counted-requires : tie.Need-rows-counted-requires
-rows-counted-requires c κs = search needs
 
 returns-3 : tie.Need-returns-3
 unfolding countedRules
@@ -52,7 +49,7 @@ counted-sound-spec =
     returns
     (λ c κs. search needs)
     returns-2
-    rows-counted-requires
+    (λ c κs. search needs)
     returns-3
     (λ c κs. search needs)
     returns-4)

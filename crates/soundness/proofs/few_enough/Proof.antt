@@ -1,13 +1,8 @@
 -- `soundness::few_enough` meets its contract. Assumes nothing.
-use native.Mathlib.Omega.{arith}
 use Rattle.stamp.specs.Limits.{parts}
-use Rattle.soundness.proofs.Turn.{fits-long, fits-words}
 use borrow.Author.Needs.{needs}
 use Rattle.soundness.proofs.few_enough.Statement.{statement}
 use Rattle.soundness.proofs.few_enough.Tie as tie
-
-count-waiting-requires : tie.Need-count-waiting-requires
-count-waiting-requires c κs = search needs
 
 sum-requires : tie.Need-sum-requires
 unfolding parts
@@ -17,4 +12,4 @@ returns : tie.Need-returns
 returns c = rw (c .sum .ensures, c .before .count-waiting .ensures .0)
 
 pub few-enough-spec : {M : Type 1} → statement M
-few-enough-spec = tie.close (tie.spec count-waiting-requires (λ c. search needs) sum-requires returns)
+few-enough-spec = tie.close (tie.spec (λ c κs. search needs) (λ c. search needs) sum-requires returns)

@@ -8,7 +8,7 @@ use Rattle.log.specs.Region.{recordsAt}
 use Rattle.counted.specs.Region.{tapsAt}
 use Rattle.prompts.specs.Region.{standingsAt}
 use Rattle.soundness.specs.Clauses.{regionRules}
-use Rattle.soundness.proofs.Turn.{all-off, fits-long}
+use Rattle.soundness.proofs.Turn.{all-off}
 use borrow.Author.Needs.{needs}
 use Rattle.soundness.proofs.regions_sound.Statement.{statement}
 use Rattle.soundness.proofs.regions_sound.Tie as tie
@@ -18,12 +18,6 @@ unfolding regionRules
 returns c =
     let e = sym (c .before .stamps-within .ensures) ∙ not-true _ (c .if1 .taken) in
     rw e
-
-lowest-of-requires : tie.Need-lowest-of-requires
-lowest-of-requires c κs = search needs
-
-log-sound-requires : tie.Need-log-sound-requires
-log-sound-requires c κs = search needs
 
 returns-2 : tie.Need-returns-2
 unfolding regionRules
@@ -55,9 +49,9 @@ regions-sound-spec =
     (tie.spec
     (λ c κs. search needs)
     returns
-    lowest-of-requires
+    (λ c κs. search needs)
     (λ c. search needs)
-    log-sound-requires
+    (λ c κs. search needs)
     returns-2
     (λ c κs. search needs)
     returns-3

@@ -4,7 +4,6 @@ use native.Mathlib.Omega.{arith}
 use mathlib.Core.Path.{_≡_, refl, sym, _∙_}
 use mathlib.Core.Bool.{not, _||_}
 use borrow.Author.Tests.{not-true, not-false}
-use Rattle.lists.specs.Rows.{rows}
 use Rattle.lists.specs.Tests.{every}
 use Rattle.ledger.specs.Record.{isApplied}
 use Rattle.log.specs.Region.{rowLong, recordAt, recordsAt}

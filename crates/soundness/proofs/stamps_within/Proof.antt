@@ -1,13 +1,12 @@
 -- `soundness::stamps_within` meets its contract: the three rules, in their order. Assumes nothing.
 use mathlib.Core.Path.{sym, _∙_}
 use mathlib.Core.Bool.{and-true}
-use native.Mathlib.Omega.{arith}
 use borrow.Author.Tests.{le-leb, lt-leb, not-true, not-false}
 use Rattle.lists.specs.Rows.{rows}
 use Rattle.stamp.specs.Limits.{parts}
 use Rattle.ledger.specs.Limits.{bookRoom}
 use Rattle.soundness.specs.Clauses.{withinRules}
-use Rattle.soundness.proofs.Turn.{all-off, fits-long, fits-words}
+use Rattle.soundness.proofs.Turn.{all-off}
 use borrow.Author.Needs.{needs}
 use Rattle.soundness.proofs.stamps_within.Statement.{statement}
 use Rattle.soundness.proofs.stamps_within.Tie as tie
@@ -22,17 +21,11 @@ returns c =
     let s = c .before .before .before .before .before .args in
     sym (all-off (withinRules (s .known .now) (rows parts (s .n) (s .table .now)) (s .value .now)) 0 (lt-leb _ _ (rw (c .before .sum .ensures) at (c .if1 .taken))))
 
-rows-within-requires : tie.Need-rows-within-requires
-rows-within-requires c κs = search needs
-
 returns-2 : tie.Need-returns-2
 unfolding withinRules
 returns-2 c =
     let s = c .before .before .before .before .before .before .before .args in
     sym (all-off (withinRules (s .known .now) (rows parts (s .n) (s .table .now)) (s .value .now)) 1 (sym (c .before .rows-within .ensures) ∙ not-true _ (c .if2 .taken)))
-
-at-most-requires : tie.Need-at-most-requires
-at-most-requires c κs = search needs
 
 returns-3 : tie.Need-returns-3
 unfolding withinRules bookRoom
@@ -46,4 +39,4 @@ returns-3 c =
 pub stamps-within-spec : {M : Type 1} → statement M
 stamps-within-spec =
     tie.close
-    (tie.spec sum-requires returns rows-within-requires returns-2 at-most-requires returns-3)
+    (tie.spec sum-requires returns (λ c κs. search needs) returns-2 (λ c κs. search needs) returns-3)
