@@ -1,0 +1,86 @@
+-- One turn and the end of a loop that tests row after row, on the lists; and what a cascade of tests comes to. Assumes nothing.
+use Prim.Native.Nat.{ℕ, zero, suc, _+_, _-_, _*_, _≤_, _<_}
+use native.Mathlib.Nat.{sub-zero}
+use native.Mathlib.Omega.{arith}
+use mathlib.Core.Path.{_≡_, refl, ap, _∙_}
+use mathlib.Core.Bool.{Bool, true, false, _&&_, and-false}
+use mathlib.Core.List.{List, [], _∷_, map}
+use lib.Dec.{T, ltb}
+use lib.ListN.{length, take, drop, getD}
+use lib.Seq.{drop-drop, take-all}
+use Rattle.lists.specs.Facts.{all-at, every-getD}
+use Rattle.lists.specs.RowLaws.{length-rows, rows-at}
+use Rattle.lists.specs.Rows.{rows}
+use Rattle.lists.specs.Tests.{all, every}
+use Rattle.stamp.specs.Limits.{parts, word}
+use Rattle.stamp.specs.Laws.{fits}
+use Rattle.stamp.specs.Parts.{partsAt, listOf}
+use Rattle.stamp.specs.PartsLaws.{list-parts}
+use Rattle.stamp.specs.Stamp.{Stamp, stampRules, stampFits}
+use Rattle.ledger.specs.Record.{Record}
+use Rattle.log.specs.Region.{rowLong, recordAt, recordsAt}
+
+-- a test of the rows from the i-th of n on, which starts at a place
+unfoldable pub everyFrom : (List ℕ → Bool) → ℕ → ℕ → List ℕ → ℕ → ℕ → Bool
+everyFrom p w n l i at = every p (rows w (n - i) (drop at l))
+
+module _ (p : List ℕ → Bool) (w n : ℕ) (l : List ℕ) where
+  pub rows-all : every p (rows w n l) ≡ everyFrom p w n l 0 0
+  unfolding everyFrom
+  rows-all = rw sub-zero
+
+  module _ (i at : ℕ) where
+    next : i < n → everyFrom p w n l i at ≡ (p (take (at + w - at) (drop at l)) && everyFrom p w n l (i + 1) (at + w))
+    unfolding everyFrom rows
+    next h =
+        let e : n - i ≡ suc (n - (i + 1)) = omega arith in
+        let f : at + w - at ≡ w = omega arith in
+        rw (e, f, drop-drop w at l)
+
+    pub rows-on : i < n → p (take (at + w - at) (drop at l)) ≡ true → everyFrom p w n l i at ≡ everyFrom p w n l (i + 1) (at + w)
+    rows-on h e = next h ∙ ap (λ (b : Bool). b && everyFrom p w n l (i + 1) (at + w)) e
+
+    pub rows-off : i < n → p (take (at + w - at) (drop at l)) ≡ false → everyFrom p w n l i at ≡ false
+    rows-off h e = next h ∙ ap (λ (b : Bool). b && everyFrom p w n l (i + 1) (at + w)) e
+
+    pub rows-end : n ≤ i → everyFrom p w n l i at ≡ true
+    unfolding everyFrom rows
+    rows-end h =
+        let e : n - i ≡ 0 = omega arith in
+        rw e
+
+-- a test of the records is a test of the rows that hold them
+pub records-all : (p : Record → Bool) (n : ℕ) (l : List ℕ) → every p (recordsAt n l) ≡ everyFrom (λ c. p (recordAt c)) rowLong n l 0 0
+unfolding recordsAt
+records-all p n l = go (rows rowLong n l) ∙ rows-all (λ c. p (recordAt c)) rowLong n l
+  where
+    go : (cs : List (List ℕ)) → every p (map recordAt cs) ≡ every (λ c. p (recordAt c)) cs
+    go [] = refl
+    go (c ∷ cs) = ap (λ (b : Bool). p (recordAt c) && b) (go cs)
+
+-- one rule that fails settles a cascade
+pub all-off : (cs : List Bool) (k : ℕ) → getD cs k true ≡ false → all cs ≡ false
+all-off [] k e = e
+all-off (c ∷ cs) zero e = ap (λ (b : Bool). b && all cs) e
+all-off (c ∷ cs) (suc k) e = ap (λ (b : Bool). c && b) (all-off cs k e) ∙ and-false c
+
+-- a stamp that fits is long enough to be compared and small enough to be summed
+module _ (n : ℕ) (s : Stamp) (t : T (stampFits n s)) where
+  pub fits-long : length s ≡ 8
+  unfolding parts
+  fits-long = fits n s t .long
+
+  pub fits-words : T (every (λ x. ltb x word) s)
+  unfolding stampFits
+  fits-words = all-at (stampRules n s) 1 t
+
+-- a stamp read as a value and laid out again
+pub copied : (s : Stamp) → length s ≡ 8 → listOf (partsAt 0 s) ≡ s
+copied s h = list-parts 0 s (omega arith) ∙ take-all 8 s (omega arith)
+
+-- row i of a table whose rows fit, as it is lent
+pub row-fits : (i n : ℕ) (table : List ℕ) → i < n → T (every (stampFits n) (rows parts n table)) → T (stampFits n (take (i * 8 + 8 - i * 8) (drop (i * 8) table)))
+unfolding parts
+row-fits i n table h t =
+    let e : i * 8 + 8 - i * 8 ≡ 8 = omega arith in
+    rw (e, ← rows-at 8 n table i h) (every-getD (stampFits n) (rows 8 n table) [] t i (omega (arith, length-rows 8 n table)))
