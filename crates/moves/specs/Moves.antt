@@ -22,8 +22,11 @@ unfoldable pub isNew : Stamp → Stamp → Record → Bool
 isNew before now r = isApplied now r && not (isApplied before r)
 
 -- a newly applied record adds to the value stamp and the counted taps that it finds
+abbrev pub added : Record → Book → Book
+added r b = countOne (tapOf (r .body)) (withValue (merge (stampOf r) (b .value)) b)
+
 unfoldable pub applyOne : Stamp → Stamp → Record → Book → Book
-applyOne before now r b = cond (isNew before now r) (countOne (tapOf (r .body)) (withValue (merge (stampOf r) (b .value)) b)) b
+applyOne before now r b = cond (isNew before now r) (added r b) b
 
 -- every record of a list, the last one first
 abbrev pub applyAll : Stamp → Stamp → List Record → Book → Book

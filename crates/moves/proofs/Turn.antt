@@ -1,0 +1,144 @@
+-- What each change of the words comes to, of the book that they hold. Assumes nothing.
+use Prim.Native.Nat.{ℕ, _+_, _*_, _≤_, _<_}
+use native.Mathlib.Omega.{arith}
+use mathlib.Core.Path.{_≡_, refl, sym, ap, ap₂, subst, _∙_}
+use mathlib.Core.Bool.{Bool, true, false, not, _&&_, cond}
+use mathlib.Core.List.{List, []}
+use lib.Dec.{T}
+use lib.ListN.{length, getD, set}
+use Rattle.lists.specs.Order.{insert}
+use Rattle.lists.specs.Part.{mid, patch}
+use Rattle.stamp.specs.Laws.{merge-comm, length-merge}
+use Rattle.stamp.specs.Limits.{parts}
+use Rattle.stamp.specs.Parts.{partsAt, listOf}
+use Rattle.stamp.specs.Stamp.{Stamp, merge}
+use Rattle.tally.specs.Limits.{promptCount}
+use Rattle.tally.specs.Standing.{CountsFit, among, blank, afresh, standing}
+use Rattle.tally.specs.StandingLaws.{afresh-at, standing-few}
+use Rattle.tally.specs.Tap.{fields, tapOf}
+use Rattle.tally.specs.declared.Standing.{Standing}
+use Rattle.tally.specs.declared.Tap.{Tap}
+use Rattle.ledger.specs.Limits.{bookRoom}
+use Rattle.ledger.specs.Record.{Record, stampOf, isApplied}
+use Rattle.counted.specs.Region.{tapWords, insertedAt}
+use Rattle.counted.specs.RegionLaws.{length-insert, words-inserted}
+use Rattle.prompts.specs.Region.{standingsAt, standingWords, notedAt}
+use Rattle.prompts.specs.RegionLaws.{prompt-word, length-noted}
+use Rattle.book.specs.Book.{Book}
+use Rattle.layout.specs.Held.{Held, put-value, put-counted, put-prompts}
+use Rattle.layout.specs.With.{withValue, withCounted, withPrompts}
+use Rattle.layout.specs.Words.{pieces, bookOf, wordsOf}
+use Rattle.layout.specs.WordsLaws.{Shape, piece-back}
+use Rattle.moves.specs.Moves.{countOne, added, isNew, applyOne}
+use Rattle.moves.specs.Places.{counted-count}
+use Rattle.moves.specs.Ready.{Countable, Insertable}
+
+module _ (ws : List ℕ) (h : Held ws) where
+  pub value-merged : (s : Stamp) → patch 68 8 ws (merge (mid 68 8 ws) s) ≡ wordsOf (withValue (merge s ((bookOf ws) .value)) (bookOf ws))
+  unfolding bookOf
+  value-merged s =
+      ap₂ (λ (l : List ℕ) (v : Stamp). patch 68 8 l v) (sym (h .words)) (merge-comm (mid 68 8 ws) s) ∙ put-value (bookOf ws) (h .shape) (merge s (mid 68 8 ws))
+
+  pub prompt-noted : (w : ℕ) → patch 3916 192 ws (standingWords (notedAt (tapOf w) (standingsAt (mid 3916 192 ws)))) ≡ wordsOf (withPrompts (notedAt (tapOf w) ((bookOf ws) .prompts)) (bookOf ws))
+  unfolding bookOf
+  prompt-noted w =
+      ap (λ (l : List ℕ). patch 3916 192 l (standingWords (notedAt (tapOf w) (standingsAt (mid 3916 192 ws))))) (sym (h .words))
+      ∙ put-prompts (bookOf ws) (h .shape) (notedAt (tapOf w) (standingsAt (mid 3916 192 ws)))
+
+  -- no count is near its limit: it is at most the number of counted taps
+  pub counts-fit : (w : ℕ) → Countable w (bookOf ws) → CountsFit (getD (standingsAt (mid 3916 192 ws)) (tapOf w .prompt) blank)
+  unfolding bookOf bookRoom
+  counts-fit w k =
+      let p = tapOf w .prompt in
+      let cs = (bookOf ws) .counted in
+      let few : standing cs p .accepts + standing cs p .declines ≤ 1024 = omega (arith, standing-few cs p, h .shape .counted-few) in
+      let small : CountsFit (standing cs p) = record { accepts = omega arith; declines = omega arith } in
+      subst CountsFit (sym (ap (λ (ss : List Standing). getD ss p blank) (k .follow) ∙ afresh-at cs p (prompt-word w))) small
+
+  counted-words : mid 2892 1024 ws ≡ tapWords bookRoom ((bookOf ws) .counted)
+  unfolding pieces
+  counted-words = ap (mid 2892 1024) (sym (h .words)) ∙ piece-back (bookOf ws) (h .shape) 4 (omega arith)
+
+  pub tap-inserted :
+      (w : ℕ) → T (not (among ((bookOf ws) .counted) (tapOf w))) → length ((bookOf ws) .counted) < bookRoom
+      → set (patch 2892 1024 ws (insertedAt (getD ws 3 0) w (mid 2892 1024 ws))) 3 (getD ws 3 0 + 1) ≡ wordsOf (withCounted (insert fields (tapOf w) ((bookOf ws) .counted)) (bookOf ws))
+  tap-inserted w new lt =
+      let ts = insert fields (tapOf w) ((bookOf ws) .counted) in
+      let region : insertedAt (getD ws 3 0) w (mid 2892 1024 ws) ≡ tapWords bookRoom ts = ap₂ (λ (n : ℕ) (l : List ℕ). insertedAt n w l) (counted-count ws h) counted-words ∙ words-inserted bookRoom w ((bookOf ws) .counted) (h .shape .counted-fit) lt new in
+      let number : getD ws 3 0 + 1 ≡ length ts = omega (arith, counted-count ws h, length-insert (tapOf w) ((bookOf ws) .counted) new) in
+      ap₂ (λ (x : List ℕ) (n : ℕ). set (patch 2892 1024 ws x) 3 n) region number
+      ∙ ap (λ (l : List ℕ). set (patch 2892 1024 l (tapWords bookRoom ts)) 3 (length ts)) (sym (h .words))
+      ∙ put-counted (bookOf ws) (h .shape) ts
+
+-- a tap is counted: nothing if it is there, else it is noted and put in its place
+module _ (ws : List ℕ) (h : Held ws) (w : ℕ) where
+  pub count-had : among ((bookOf ws) .counted) (tapOf w) ≡ true → ws ≡ wordsOf (countOne (tapOf w) (bookOf ws))
+  unfolding countOne
+  count-had e = rw e (sym (h .words))
+
+  pub noted-shape : Shape (withPrompts (notedAt (tapOf w) ((bookOf ws) .prompts)) (bookOf ws))
+  noted-shape =
+      let s = h .shape in
+      record {
+        rows-long = s .rows-long;
+        screens-few = s .screens-few;
+        rows-wide = s .rows-wide;
+        value-long = s .value-long;
+        log-few = s .log-few;
+        log-eight = s .log-eight;
+        counted-few = s .counted-few;
+        counted-fit = s .counted-fit;
+        prompts-long = length-noted (tapOf w) ((bookOf ws) .prompts) ∙ s .prompts-long;
+      }
+
+  module _ (k : Countable w (bookOf ws)) (e : among ((bookOf ws) .counted) (tapOf w) ≡ false) where
+    new : T (not (among ((bookOf ws) .counted) (tapOf w)))
+    new = subst (λ (c : Bool). T (not c)) (sym e) tt
+
+    pub noted-insertable : Insertable w (withPrompts (notedAt (tapOf w) ((bookOf ws) .prompts)) (bookOf ws))
+    noted-insertable = record { order = k .order; new = new; room = omega (arith, length-insert (tapOf w) ((bookOf ws) .counted) new, k .room) }
+
+  pub count-new :
+      (vs : List ℕ) → among ((bookOf ws) .counted) (tapOf w) ≡ false → bookOf vs ≡ withPrompts (notedAt (tapOf w) ((bookOf ws) .prompts)) (bookOf ws)
+      → wordsOf (withCounted (insert fields (tapOf w) ((bookOf vs) .counted)) (bookOf vs)) ≡ wordsOf (countOne (tapOf w) (bookOf ws))
+  unfolding countOne
+  count-new vs e f = ap (λ (b : Book). wordsOf (withCounted (insert fields (tapOf w) (b .counted)) b)) f ∙ rw e
+
+-- a record is added: its stamp is merged, then its tap is counted
+module _ (ws : List ℕ) (h : Held ws) (r : Record) (o : length (stampOf r) ≡ 8) where
+  pub merged-shape : Shape (withValue (merge (stampOf r) ((bookOf ws) .value)) (bookOf ws))
+  unfolding parts
+  merged-shape =
+      let s = h .shape in
+      record {
+        rows-long = s .rows-long;
+        screens-few = s .screens-few;
+        rows-wide = s .rows-wide;
+        value-long = length-merge (stampOf r) ((bookOf ws) .value) (o ∙ sym (s .value-long)) ∙ s .value-long;
+        log-few = s .log-few;
+        log-eight = s .log-eight;
+        counted-few = s .counted-few;
+        counted-fit = s .counted-fit;
+        prompts-long = s .prompts-long;
+      }
+
+  pub merged-countable : Countable (r .body) (bookOf ws) → Countable (r .body) (withValue (merge (stampOf r) ((bookOf ws) .value)) (bookOf ws))
+  merged-countable k = record { order = k .order; follow = k .follow; room = k .room }
+
+-- one record of the log, by the two tests
+module _ (before now : Stamp) (r : Record) (b : Book) where
+  pub not-now : isApplied now r ≡ false → (applyOne before now r b ≡ b) × (isNew before now r ≡ false)
+  unfolding applyOne isNew
+  not-now e = (rw e, rw e)
+
+  pub was-before : isApplied before r ≡ true → (applyOne before now r b ≡ b) × (isNew before now r ≡ false)
+  unfolding applyOne isNew
+  was-before e = go (isApplied now r)
+    where
+      go : (c : Bool) → (cond (c && not (isApplied before r)) (added r b) b ≡ b) × ((c && not (isApplied before r)) ≡ false)
+      go true = (rw e, rw e)
+      go false = (refl, refl)
+
+  pub newly : isApplied now r ≡ true → isApplied before r ≡ false → (applyOne before now r b ≡ added r b) × (isNew before now r ≡ true)
+  unfolding applyOne isNew
+  newly e f = (rw (e, f), rw (e, f))
