@@ -1,14 +1,16 @@
 -- What each change of the words comes to, of the book that they hold. Assumes nothing.
 use Prim.Native.Nat.{ℕ, _+_, _*_, _≤_, _<_}
+use native.Mathlib.Nat.{le-refl}
 use native.Mathlib.Omega.{arith}
 use mathlib.Core.Path.{_≡_, refl, sym, ap, ap₂, subst, _∙_}
 use mathlib.Core.Bool.{Bool, true, false, not, _&&_, cond}
 use mathlib.Core.List.{List, []}
 use lib.Dec.{T}
-use lib.ListN.{length, getD, set}
+use lib.ListN.{length, getD, set, take, drop, length-take, length-drop, drop-of-length-le}
+use Rattle.lists.specs.Facts.{bit}
 use Rattle.lists.specs.Order.{insert}
 use Rattle.lists.specs.Part.{mid, patch}
-use Rattle.stamp.specs.Laws.{merge-comm, length-merge}
+use Rattle.stamp.specs.Laws.{merge-comm, length-merge, length-replace}
 use Rattle.stamp.specs.Limits.{parts}
 use Rattle.stamp.specs.Parts.{partsAt, listOf}
 use Rattle.stamp.specs.Stamp.{Stamp, merge}
@@ -20,7 +22,9 @@ use Rattle.tally.specs.declared.Standing.{Standing}
 use Rattle.tally.specs.declared.Tap.{Tap}
 use Rattle.ledger.specs.Limits.{bookRoom}
 use Rattle.ledger.specs.Record.{Record, stampOf, isApplied}
-use Rattle.counted.specs.Region.{tapWords, insertedAt}
+use Rattle.ledger.specs.Log.{newlyApplied}
+use Rattle.log.specs.Region.{recordAt}
+use Rattle.counted.specs.Region.{tapsAt, tapWords, insertedAt}
 use Rattle.counted.specs.RegionLaws.{length-insert, words-inserted}
 use Rattle.prompts.specs.Region.{standingsAt, standingWords, notedAt}
 use Rattle.prompts.specs.RegionLaws.{prompt-word, length-noted}
@@ -29,9 +33,9 @@ use Rattle.layout.specs.Held.{Held, put-value, put-counted, put-prompts}
 use Rattle.layout.specs.With.{withValue, withCounted, withPrompts}
 use Rattle.layout.specs.Words.{pieces, bookOf, wordsOf}
 use Rattle.layout.specs.WordsLaws.{Shape, piece-back}
-use Rattle.moves.specs.Moves.{countOne, added, isNew, applyOne}
-use Rattle.moves.specs.Places.{counted-count}
-use Rattle.moves.specs.Ready.{Countable, Insertable}
+use Rattle.moves.specs.Moves.{countOne, added, isNew, applyOne, applyAll}
+use Rattle.moves.specs.Places.{noRecord, held-is, book-is, log-count, counted-count}
+use Rattle.moves.specs.Ready.{Countable, Insertable, Applicable, Ready, appliedFrom, from-shape, from-log, from-none, from-all, from-next, newly-next, from-applicable}
 
 module _ (ws : List ℕ) (h : Held ws) where
   pub value-merged : (s : Stamp) → patch 68 8 ws (merge (mid 68 8 ws) s) ≡ wordsOf (withValue (merge s ((bookOf ws) .value)) (bookOf ws))
@@ -70,6 +74,10 @@ module _ (ws : List ℕ) (h : Held ws) where
       ∙ ap (λ (l : List ℕ). set (patch 2892 1024 l (tapWords bookRoom ts)) 3 (length ts)) (sym (h .words))
       ∙ put-counted (bookOf ws) (h .shape) ts
 
+pub counted-among : (ws : List ℕ) (t : Tap) → among ((bookOf ws) .counted) t ≡ among (tapsAt (getD ws 3 0) (mid 2892 1024 ws)) t
+unfolding bookOf
+counted-among ws t = refl
+
 -- a tap is counted: nothing if it is there, else it is noted and put in its place
 module _ (ws : List ℕ) (h : Held ws) (w : ℕ) where
   pub count-had : among ((bookOf ws) .counted) (tapOf w) ≡ true → ws ≡ wordsOf (countOne (tapOf w) (bookOf ws))
@@ -103,6 +111,12 @@ module _ (ws : List ℕ) (h : Held ws) (w : ℕ) where
       → wordsOf (withCounted (insert fields (tapOf w) ((bookOf vs) .counted)) (bookOf vs)) ≡ wordsOf (countOne (tapOf w) (bookOf ws))
   unfolding countOne
   count-new vs e f = ap (λ (b : Book). wordsOf (withCounted (insert fields (tapOf w) (b .counted)) b)) f ∙ rw e
+
+pub stamp-eight : (row : List ℕ) → length row ≡ 11 → recordAt row .origin < 8 → length (stampOf (recordAt row)) ≡ 8
+unfolding stampOf
+stamp-eight row e l =
+    let eight : length (take 8 (drop 2 row)) ≡ 8 = simp (length-take, length-drop) (omega arith) in
+    length-replace (take 8 (drop 2 row)) (getD row 0 0) (getD row 1 0) (omega arith) ∙ eight
 
 -- a record is added: its stamp is merged, then its tap is counted
 module _ (ws : List ℕ) (h : Held ws) (r : Record) (o : length (stampOf r) ≡ 8) where
@@ -142,3 +156,42 @@ module _ (before now : Stamp) (r : Record) (b : Book) where
   pub newly : isApplied now r ≡ true → isApplied before r ≡ false → (applyOne before now r b ≡ added r b) × (isNew before now r ≡ true)
   unfolding applyOne isNew
   newly e f = (rw (e, f), rw (e, f))
+
+-- the log from its end to its start
+module _ (before now : Stamp) (ws : List ℕ) (h : Held ws) (y : Ready before now (bookOf ws)) where
+  none-newly : length (newlyApplied before now []) ≡ 0
+  unfolding newlyApplied
+  none-newly = refl
+
+  pub log-start : (ws ≡ wordsOf (appliedFrom before now (bookOf ws) (getD ws 2 0))) × (0 ≡ length (newlyApplied before now (drop (getD ws 2 0) ((bookOf ws) .log))))
+  log-start =
+      let e = log-count ws h in
+      (sym (ap (λ (k : ℕ). wordsOf (appliedFrom before now (bookOf ws) k)) e ∙ ap wordsOf (from-none before now (bookOf ws) y) ∙ h .words),
+      rw (e, drop-of-length-le ((bookOf ws) .log) (le-refl (length ((bookOf ws) .log)))) (sym none-newly))
+
+  module _ (vs : List ℕ) (i : ℕ) (l : i < length ((bookOf ws) .log)) (e : vs ≡ wordsOf (appliedFrom before now (bookOf ws) (i + 1))) where
+    there : bookOf vs ≡ appliedFrom before now (bookOf ws) (i + 1)
+    there = book-is vs (appliedFrom before now (bookOf ws) (i + 1)) (from-shape before now (bookOf ws) y (i + 1)) e
+
+    same-record : getD ((bookOf vs) .log) i noRecord ≡ getD ((bookOf ws) .log) i noRecord
+    same-record = ap (λ (b : Book). getD (b .log) i noRecord) there ∙ ap (λ (rs : List Record). getD rs i noRecord) (from-log before now (bookOf ws) y (i + 1))
+
+    pub turn-held : Held vs
+    turn-held = held-is vs (appliedFrom before now (bookOf ws) (i + 1)) (from-shape before now (bookOf ws) y (i + 1)) e
+
+    pub turn-in : i < length ((bookOf vs) .log)
+    turn-in = omega (arith, ap (λ (b : Book). length (b .log)) there, ap length (from-log before now (bookOf ws) y (i + 1)))
+
+    pub turn-applicable : Applicable before now (getD ((bookOf vs) .log) i noRecord) (bookOf vs)
+    turn-applicable = rw (same-record, there) (from-applicable before now (bookOf ws) y i l)
+
+    pub turn-words : wordsOf (applyOne before now (getD ((bookOf vs) .log) i noRecord) (bookOf vs)) ≡ wordsOf (appliedFrom before now (bookOf ws) i)
+    turn-words = rw (same-record, there) (ap wordsOf (from-next before now (bookOf ws) y i l))
+
+    pub turn-newly : (n : ℕ) → n ≡ length (newlyApplied before now (drop (i + 1) ((bookOf ws) .log))) → n + bit (isNew before now (getD ((bookOf vs) .log) i noRecord)) ≡ length (newlyApplied before now (drop i ((bookOf ws) .log)))
+    turn-newly n f = rw same-record (omega (arith, newly-next before now (bookOf ws) y i l))
+
+  pub log-end : (i : ℕ) → i ≤ 0 → (wordsOf (appliedFrom before now (bookOf ws) i) ≡ wordsOf (applyAll before now ((bookOf ws) .log) (bookOf ws))) × (length (newlyApplied before now (drop i ((bookOf ws) .log))) ≡ length (newlyApplied before now ((bookOf ws) .log)))
+  log-end i z =
+      let e : i ≡ 0 = omega arith in
+      (ap (λ (k : ℕ). wordsOf (appliedFrom before now (bookOf ws) k)) e ∙ ap wordsOf (from-all before now (bookOf ws) y), ap (λ (k : ℕ). length (newlyApplied before now (drop k ((bookOf ws) .log)))) e)

@@ -78,6 +78,10 @@ module _ (ws : List ℕ) (h : Held ws) where
   pub counted-count : getD ws 3 0 ≡ length ((bookOf ws) .counted)
   counted-count = ap (λ (l : List ℕ). getD l 3 0) (sym (h .words)) ∙ counted-back (bookOf ws) (h .shape)
 
+  pub counted-most : getD ws 3 0 ≤ 1024
+  unfolding bookRoom
+  counted-most = omega (arith, counted-count, h .shape .counted-few)
+
   pub row-words : (j : ℕ) → j < (bookOf ws) .screens → row (bookOf ws) j ≡ mid (4 + j * 8) 8 ws
   unfolding bookOf row parts
   row-words j l = part-row 4 64 8 (getD ws 1 0) ws j l (omega (arith, screens-most))
