@@ -1,3 +1,4 @@
 pub mod Merge
 pub mod OrderLaws
 pub mod MergeLaws
+pub mod RowLaws

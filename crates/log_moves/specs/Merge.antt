@@ -5,9 +5,10 @@ use mathlib.Core.Bool.{not}
 use mathlib.Core.Logic.{_≢_}
 use mathlib.Core.List.{List, _++_, map}
 use lib.Dec.{T}
-use lib.ListN.{length, drop, replicate}
+use lib.ListN.{length, take, drop, replicate}
 use Rattle.lists.specs.Facts.{_∈_}
 use Rattle.lists.specs.Order.{keyBefore, rising}
+use Rattle.lists.specs.Part.{mid}
 use Rattle.lists.specs.Rows.{flat}
 use Rattle.lists.specs.Tests.{keep}
 use Rattle.stamp.specs.Stamp.{Stamp}
@@ -15,6 +16,7 @@ use Rattle.ledger.specs.Record.{Record, place}
 use Rattle.ledger.specs.Log.{gathered}
 use Rattle.log.specs.Lowest.{goesBy}
 use Rattle.log.specs.Region.{rowLong, recordAt, rowOf, recordsAt}
+use Rattle.log.specs.Walk.{recordsFrom}
 
 -- the records that stand after x, and the others
 unfoldable pub afterOf : Record → List Record → List Record
@@ -32,6 +34,18 @@ pub record Fresh (new rs : List Record) : Type 0 where
 -- a region whose first i rows get `new` merged in, over a gap of so many rows behind them; what stands past the gap stays
 unfoldable pub merged : List Record → ℕ → ℕ → List ℕ → List ℕ
 merged new i gap l = flat (map rowOf (gathered new (recordsAt i l))) ++ drop ((i + gap) * rowLong) l
+
+-- of the first i rows the first n do not stand after a row, and the others do
+pub record Parted (i : ℕ) (row l : List ℕ) (n : ℕ) : Type 0 where
+  pub fewer : n ≤ i
+  pub before : recordsAt n l ≡ beforeOf (recordAt row) (recordsAt i l)
+  pub after : recordsFrom i l n (n * rowLong) ≡ afterOf (recordAt row) (recordsAt i l)
+
+-- the words from a place up to another moved up; what stood below them and past their new place is as it was
+pub record Shifted (from to by : ℕ) (old new : List ℕ) : Type 0 where
+  pub long : length new ≡ length old
+  pub below : take from new ≡ take from old
+  pub above : drop (from + by) new ≡ mid from (to - from) old ++ drop (to + by) old
 
 -- a row slid in: of the first i rows n stay, the others stand behind it, up to what stood past the gap
 pub record Slid (i gap : ℕ) (row old new : List ℕ) (n : ℕ) : Type 0 where
