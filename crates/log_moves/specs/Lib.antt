@@ -2,3 +2,4 @@ pub mod Merge
 pub mod OrderLaws
 pub mod MergeLaws
 pub mod RowLaws
+pub mod WordLaws

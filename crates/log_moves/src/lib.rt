@@ -153,8 +153,7 @@ fn clear(r: &mut [u64], from: usize, to: usize)
 // The rows that may go dropped from the first of them, and the rest closed up. Gives how many stay.
 pub fn drop_rows(r: &mut [u64], count: usize, known: &[u64], low: &[u64]) -> usize
     requires { ⌜ (count * rowLong ≤ length (now r)) × (length (now known) ≡ 8) ⌝ }
-    ensures { λ _. ⌜ now (r .exit) ≡ dropped (now (known .entry)) (now (low .entry)) count (now (r .entry)) ⌝ }
-    ensures { λ n. ⌜ (n ≡ length (stayers (now (known .entry)) (now (low .entry)) (recordsAt count (now (r .entry))))) × (n ≤ count) ⌝ }
+    ensures { λ n. ⌜ (now (r .exit) ≡ dropped (now (known .entry)) (now (low .entry)) count (now (r .entry))) × (n ≡ length (stayers (now (known .entry)) (now (low .entry)) (recordsAt count (now (r .entry))))) × (n ≤ count) ⌝ }
 {
     let mut kept = 0;
     let mut i = 0;

@@ -1,3 +1,10 @@
+-- `log_moves::move_row` meets its contract. Assumes nothing.
+use Prim.Native.Nat.{_+_, _-_, _*_}
+use native.Mathlib.Omega.{arith}
+use mathlib.Core.Path.{_≡_, sym}
+use Rattle.lists.specs.Part.{mid}
+use Rattle.log.specs.Region.{rowLong}
+use Rattle.log_moves.proofs.Step.{patch-self}
 use borrow.Author.Needs.{needs}
 use Rattle.log_moves.proofs.move_row.Statement.{statement}
 use Rattle.log_moves.proofs.move_row.Tie as tie
@@ -8,7 +15,9 @@ use Rattle.log_moves.proofs.put_row.Reads as put-row-reads
 
 -- src/lib.rt:132:9
 returns : tie.Need-returns
-returns c = search needs
+returns c =
+    let s = c .before .before .args in
+    sym (rw (c .if1 .taken) (patch-self (s .from * rowLong) rowLong (s .r .now)))
 
 -- src/lib.rt:135:14
 mul-at : tie.Need-mul-at
@@ -56,7 +65,13 @@ same-length c = search needs
 
 -- src/lib.rt:127:1
 returns-2 : tie.Need-returns-2
-returns-2 c = search needs
+unfolding mid
+returns-2 c =
+    let p = c .before .before in
+    let q = p .before .before .before .before in
+    let at = q .before .before .before .before .before .before .args .from * rowLong in
+    let e : at + rowLong - at ≡ rowLong = omega arith in
+    rw (p .put-row .ensures, q .copy .ensures, e)
 
 pub move-row-spec : {M : Type 1} → statement M
 move-row-spec =

@@ -1,3 +1,9 @@
+-- `log_moves::put_row` meets its contract. Assumes nothing.
+use Prim.Native.Nat.{_+_, _-_, _*_}
+use native.Mathlib.Omega.{arith}
+use mathlib.Core.Path.{_≡_}
+use Rattle.lists.specs.Part.{patch}
+use Rattle.log.specs.Region.{rowLong}
 use borrow.Author.Needs.{needs}
 use Rattle.log_moves.proofs.put_row.Statement.{statement}
 use Rattle.log_moves.proofs.put_row.Tie as tie
@@ -39,7 +45,11 @@ same-length c = search needs
 
 -- src/lib.rt:85:1
 returns : tie.Need-returns
-returns c = search needs
+unfolding patch
+returns c =
+    let at = c .before .before .before .before .before .before .args .i * rowLong in
+    let e : at + rowLong - at ≡ rowLong = omega arith in
+    rw (c .before .before .copy .ensures, e)
 
 pub put-row-spec : {M : Type 1} → statement M
 put-row-spec =
