@@ -3,7 +3,7 @@
 --     rowsSound-is    one test of all records is its four clauses, each of all records
 --     recordFits-is   the field rules are those of the fields and that of the body
 use Prim.Native.Nat.{ℕ, _<_}
-use mathlib.Core.Path.{_≡_, refl, ap, ap₂, _∙_}
+use mathlib.Core.Path.{_≡_, refl, ap, _∙_}
 use mathlib.Core.Bool.{Bool, true, false, not, _&&_, _||_}
 use mathlib.Core.List.{List}
 use lib.Dec.{leb, ltb}
@@ -32,9 +32,9 @@ unfolding rowSound
 rowsSound-is n known low value log =
     every-and (isKnown known) (λ r. recordFits (λ _. true) n r && (not (goesBy known low r) && (not (isApplied known r) || atMost (stampOf r) value))) log
     ∙ ap (λ (b : Bool). every (isKnown known) log && b)
-        (every-and (recordFits (λ _. true) n) (λ r. not (goesBy known low r) && (not (isApplied known r) || atMost (stampOf r) value)) log
-        ∙ ap (λ (b : Bool). every (recordFits (λ _. true) n) log && b)
-            (every-and (λ r. not (goesBy known low r)) (λ r. not (isApplied known r) || atMost (stampOf r) value) log))
+    (every-and (recordFits (λ _. true) n) (λ r. not (goesBy known low r) && (not (isApplied known r) || atMost (stampOf r) value)) log
+    ∙ ap (λ (b : Bool). every (recordFits (λ _. true) n) log && b)
+    (every-and (λ r. not (goesBy known low r)) (λ r. not (isApplied known r) || atMost (stampOf r) value) log))
 
 last-rule : (a b c d e : Bool) → (a && (b && (c && (d && (e && true))))) ≡ ((a && (b && (c && (d && (true && true))))) && e)
 last-rule true true true true true = refl
@@ -48,5 +48,5 @@ pub recordFits-is : (bodyFits : ℕ → Bool) (n : ℕ) (log : List Record) → 
 unfolding recordFits
 recordFits-is bodyFits n log =
     every-same (recordFits bodyFits n) (λ r. recordFits (λ _. true) n r && bodyFits (r .body)) log
-        (λ r. last-rule (ltb (r .origin) n) (leb 1 (r .number)) (ltb (part (r .label) (r .origin)) (r .number)) (stampFits n (r .label)) (bodyFits (r .body)))
+    (λ r. last-rule (ltb (r .origin) n) (leb 1 (r .number)) (ltb (part (r .label) (r .origin)) (r .number)) (stampFits n (r .label)) (bodyFits (r .body)))
     ∙ every-and (recordFits (λ _. true) n) (λ r. bodyFits (r .body)) log

@@ -2,11 +2,12 @@
 --     records-all    from the front it is all of them
 --     records-next   the row at the place, and those past it
 --     records-none   past the last row there are none
+--     record-lent    the row at the place, as it is lent
 use Prim.Native.Nat.{ℕ, suc, _+_, _-_, _≤_, _<_}
 use native.Mathlib.Omega.{arith}
 use native.Mathlib.Nat.{sub-zero}
-use mathlib.Core.Path.{_≡_, ap, _∙_}
-use mathlib.Core.List.{List, [], _∷_, map}
+use mathlib.Core.Path.{_≡_}
+use mathlib.Core.List.{List, [], _∷_}
 use lib.ListN.{take, drop}
 use lib.Seq.{drop-drop}
 use Rattle.lists.specs.Rows.{rows}
@@ -37,9 +38,12 @@ records-none n r i at h =
     let e : n - i ≡ 0 = omega arith in
     rw e
 
--- a row lent as a part
-pub record-part : (r : List ℕ) (at : ℕ) → recordAt (take (at + rowLong - at) (drop at r)) ≡ recordFrom r at
+-- the same row lent as a part
+abbrev pub lentAt : List ℕ → ℕ → Record
+lentAt r at = recordAt (take (at + rowLong - at) (drop at r))
+
+pub record-lent : (r : List ℕ) (at : ℕ) → lentAt r at ≡ recordFrom r at
 unfolding recordFrom
-record-part r at =
+record-lent r at =
     let e : at + rowLong - at ≡ rowLong = omega arith in
     rw e

@@ -1,25 +1,38 @@
 // The log on a lent slice: rows of eleven words, by origin, then number. Knows nothing of what a body means.
+use stamp::PARTS;
 use stamp::at_most;
 use stamp::fits;
+use stamp::list_of;
+use stamp::parts_at;
 ghost use mathlib.Core.Path.{_≡_};
 ghost use mathlib.Core.Bool.{true};
 ghost use Prim.Native.Nat.{_*_, _≤_, min};
+ghost use lib.Dec.{T, leb};
 ghost use lib.ListN.{length};
+ghost use Rattle.lists.specs.Facts.{bit};
+ghost use Rattle.lists.specs.Order.{keyBefore, rising};
 ghost use Rattle.lists.specs.Rows.{rows};
+ghost use Rattle.lists.specs.Tests.{allBelow, every};
 ghost use Rattle.stamp.specs.Stamp.{part};
-ghost use Rattle.ledger.specs.Record.{isKnown, isApplied, isWaiting, recordFits};
-ghost use Rattle.log.specs.Region.{rowLong, recordAt};
+ghost use Rattle.ledger.specs.Log.{waitingIn};
+ghost use Rattle.ledger.specs.Record.{place, isKnown, isApplied, isWaiting, recordFits};
+ghost use Rattle.log.specs.Region.{rowLong, stampLong, recordAt, recordsAt};
 ghost use Rattle.log.specs.Lowest.{meet, lowestFrom, goesBy};
 ghost use Rattle.log.specs.RowSound.{rowSound};
+ghost use Rattle.log.specs.Held.{raised, climbed, climb, holdsAll};
+ghost use Rattle.log.specs.First.{firstWith};
+
+// A row's words.
+pub const ROW: usize = 11;
 
 // Where the words of a row stand; the label is from LABEL to BODY.
-const ORIGIN: usize = 0;
-const NUMBER: usize = 1;
-const LABEL: usize = 2;
-const BODY: usize = 10;
+pub const ORIGIN: usize = 0;
 
-// A stamp's parts.
-const PARTS: usize = 8;
+pub const NUMBER: usize = 1;
+
+pub const LABEL: usize = 2;
+
+pub const BODY: usize = 10;
 
 // A part that a stamp does not have is zero.
 pub fn part_at(s: &[u64], k: u64) -> u64
@@ -41,7 +54,7 @@ pub fn is_known(row: &[u64], s: &[u64]) -> bool
 
 pub fn is_applied(row: &[u64], s: &[u64]) -> bool
     requires { ⌜ length (now row) ≡ rowLong ⌝ }
-    requires { ⌜ length (now s) ≡ 8 ⌝ }
+    requires { ⌜ length (now s) ≡ stampLong ⌝ }
     ensures { λ r. ⌜ r ≡ isApplied (now (s .entry)) (recordAt (now (row .entry))) ⌝ }
 {
     if !is_known(row, s) {
@@ -52,7 +65,7 @@ pub fn is_applied(row: &[u64], s: &[u64]) -> bool
 
 pub fn is_waiting(row: &[u64], s: &[u64]) -> bool
     requires { ⌜ length (now row) ≡ rowLong ⌝ }
-    requires { ⌜ length (now s) ≡ 8 ⌝ }
+    requires { ⌜ length (now s) ≡ stampLong ⌝ }
     ensures { λ r. ⌜ r ≡ isWaiting (now (s .entry)) (recordAt (now (row .entry))) ⌝ }
 {
     if !is_known(row, s) {
@@ -64,7 +77,7 @@ pub fn is_waiting(row: &[u64], s: &[u64]) -> bool
 // Whether the record is applied under s and known everywhere: `low` is the table's lowest stamp.
 pub fn goes(row: &[u64], s: &[u64], low: &[u64]) -> bool
     requires { ⌜ length (now row) ≡ rowLong ⌝ }
-    requires { ⌜ length (now s) ≡ 8 ⌝ }
+    requires { ⌜ length (now s) ≡ stampLong ⌝ }
     ensures { λ r. ⌜ r ≡ goesBy (now (s .entry)) (now (low .entry)) (recordAt (now (row .entry))) ⌝ }
 {
     if !is_applied(row, s) {
@@ -93,7 +106,7 @@ pub fn row_fits(row: &[u64], n: usize) -> bool
 // What soundness asks of a record alone. Once it fits, the value stamp covers its stamp exactly when the record is applied under it.
 pub fn row_sound(row: &[u64], n: usize, known: &[u64], low: &[u64], value: &[u64]) -> bool
     requires { ⌜ length (now row) ≡ rowLong ⌝ }
-    requires { ⌜ (length (now known) ≡ 8) × (length (now value) ≡ 8) ⌝ }
+    requires { ⌜ (length (now known) ≡ stampLong) × (length (now value) ≡ stampLong) ⌝ }
     ensures { λ r. ⌜ r ≡ rowSound n (now (known .entry)) (now (low .entry)) (now (value .entry)) (recordAt (now (row .entry))) ⌝ }
 {
     if !is_known(row, known) {
@@ -131,9 +144,9 @@ fn meet_into(a: &mut [u64], b: &[u64])
 
 // A stamp met with each of the table's n rows, written over it.
 pub fn lowest(table: &[u64], n: usize, low: &mut [u64])
-    requires { ⌜ n * 8 ≤ length (now table) ⌝ }
-    requires { ⌜ length (now low) ≡ 8 ⌝ }
-    ensures { λ _. ⌜ (now (low .exit) ≡ lowestFrom (now (low .entry)) (rows 8 n (now (table .entry)))) × (length (now (low .exit)) ≡ 8) ⌝ }
+    requires { ⌜ n * stampLong ≤ length (now table) ⌝ }
+    requires { ⌜ length (now low) ≡ stampLong ⌝ }
+    ensures { λ _. ⌜ (now (low .exit) ≡ lowestFrom (now (low .entry)) (rows stampLong n (now (table .entry)))) × (length (now (low .exit)) ≡ stampLong) ⌝ }
 {
     let mut i = 0;
     let mut at = 0;
@@ -143,4 +156,180 @@ pub fn lowest(table: &[u64], n: usize, low: &mut [u64])
         at = e;
         i += 1;
     }
+}
+
+// What soundness asks of each record alone.
+pub fn rows_sound(
+    r: &[u64],
+    count: usize,
+    n: usize,
+    known: &[u64],
+    low: &[u64],
+    value: &[u64],
+) -> bool
+    requires { ⌜ count * rowLong ≤ length (now r) ⌝ }
+    requires { ⌜ (length (now known) ≡ stampLong) × (length (now value) ≡ stampLong) ⌝ }
+    ensures { λ b. ⌜ b ≡ every (rowSound n (now (known .entry)) (now (low .entry)) (now (value .entry))) (recordsAt count (now (r .entry))) ⌝ }
+{
+    let mut i = 0;
+    let mut at = 0;
+    while i < count {
+        let e = at + ROW;
+        if !row_sound(&r[at..e], n, known, low, value) {
+            return false;
+        }
+        at = e;
+        i += 1;
+    }
+    true
+}
+
+// Whether row a stands before row b: by origin, then number.
+fn stands_before(a: &[u64], b: &[u64]) -> bool
+    requires { ⌜ (length (now a) ≡ rowLong) × (length (now b) ≡ rowLong) ⌝ }
+    ensures { λ r. ⌜ r ≡ keyBefore (place (recordAt (now (a .entry)))) (place (recordAt (now (b .entry)))) ⌝ }
+{
+    if a[ORIGIN] < b[ORIGIN] {
+        return true;
+    }
+    if a[ORIGIN] != b[ORIGIN] {
+        return false;
+    }
+    a[NUMBER] < b[NUMBER]
+}
+
+// Whether the rows rise strictly: neighbours suffice.
+pub fn rising_rows(r: &[u64], count: usize) -> bool
+    requires { ⌜ count * rowLong ≤ length (now r) ⌝ }
+    ensures { λ b. ⌜ b ≡ rising place (recordsAt count (now (r .entry))) ⌝ }
+{
+    let mut i = 0;
+    let mut at = 0;
+    while i + 1 < count {
+        let next = at + ROW;
+        let e = next + ROW;
+        if !stands_before(&r[at..next], &r[next..e]) {
+            return false;
+        }
+        at = next;
+        i += 1;
+    }
+    true
+}
+
+// q if it is the next number, else what was reached.
+fn raise(reached: u64, q: u64) -> u64
+    ensures { λ r. ⌜ r ≡ raised reached q ⌝ }
+{
+    if q <= reached {
+        return reached;
+    }
+    if 1 < q - reached {
+        return reached;
+    }
+    q
+}
+
+// An origin past the stamp's parts raises none.
+fn climb_row(row: &[u64], reached: &mut [u64])
+    requires { ⌜ length (now row) ≡ rowLong ⌝ }
+    ensures { λ _. ⌜ (now (reached .exit) ≡ climbed (now (reached .entry)) (recordAt (now (row .entry)))) × (length (now (reached .exit)) ≡ length (now (reached .entry))) ⌝ }
+{
+    let k = row[ORIGIN] as usize;
+    if reached.len() <= k {
+        return;
+    }
+    reached[k] = raise(reached[k], row[NUMBER]);
+}
+
+// How far the numbers of each origin go without a gap from those reached, written over them.
+pub fn climb_rows(r: &[u64], count: usize, reached: &mut [u64])
+    requires { ⌜ count * rowLong ≤ length (now r) ⌝ }
+    ensures { λ _. ⌜ (now (reached .exit) ≡ climb (now (reached .entry)) (recordsAt count (now (r .entry)))) × (length (now (reached .exit)) ≡ length (now (reached .entry))) ⌝ }
+{
+    let mut i = 0;
+    let mut at = 0;
+    while i < count {
+        let e = at + ROW;
+        climb_row(&r[at..e], reached);
+        at = e;
+        i += 1;
+    }
+}
+
+// Whether the first n parts of a are at most those of b.
+fn first_at_most(a: &[u64], b: &[u64], n: usize) -> bool
+    requires { ⌜ (n ≤ length (now a)) × (n ≤ length (now b)) ⌝ }
+    ensures { λ r. ⌜ r ≡ allBelow n (λ k. leb (part (now (a .entry)) k) (part (now (b .entry)) k)) ⌝ }
+{
+    let mut k = n;
+    while 0 < k {
+        k -= 1;
+        if b[k] < a[k] {
+            return false;
+        }
+    }
+    true
+}
+
+// Whether each number up to the known part is in the log or at most the lowest part, for the first n origins.
+pub fn all_held(r: &[u64], count: usize, n: usize, known: &[u64], low: &[u64]) -> bool
+    requires { ⌜ count * rowLong ≤ length (now r) ⌝ }
+    requires { ⌜ T (rising place (recordsAt count (now r))) ⌝ }
+    requires { ⌜ (length (now known) ≡ stampLong) × (length (now low) ≡ stampLong) × (n ≤ stampLong) ⌝ }
+    ensures { λ b. ⌜ b ≡ holdsAll n (now (low .entry)) (now (known .entry)) (recordsAt count (now (r .entry))) ⌝ }
+{
+    let p = parts_at(low, 0);
+    let mut reached = list_of(p);
+    climb_rows(r, count, &mut reached);
+    first_at_most(known, &reached, n)
+}
+
+fn one_if(b: bool) -> usize
+    ensures { λ r. ⌜ (r ≡ bit b) × (r ≤ 1) ⌝ }
+{
+    if b { 1 } else { 0 }
+}
+
+// How many records wait.
+pub fn count_waiting(r: &[u64], count: usize, known: &[u64]) -> usize
+    requires { ⌜ count * rowLong ≤ length (now r) ⌝ }
+    requires { ⌜ length (now known) ≡ stampLong ⌝ }
+    ensures { λ n. ⌜ (n ≡ length (waitingIn (now (known .entry)) (recordsAt count (now (r .entry))))) × (n ≤ count) ⌝ }
+{
+    let mut n = 0;
+    let mut i = 0;
+    let mut at = 0;
+    while i < count {
+        let e = at + ROW;
+        n += one_if(is_waiting(&r[at..e], known));
+        at = e;
+        i += 1;
+    }
+    n
+}
+
+fn body_of(row: &[u64]) -> u64
+    requires { ⌜ length (now row) ≡ rowLong ⌝ }
+    ensures { λ w. ⌜ w ≡ recordAt (now (row .entry)) .body ⌝ }
+{
+    row[BODY]
+}
+
+// The first row whose body is w, or count.
+pub fn find_body(r: &[u64], count: usize, w: u64) -> usize
+    requires { ⌜ count * rowLong ≤ length (now r) ⌝ }
+    ensures { λ i. ⌜ (i ≡ firstWith w (recordsAt count (now (r .entry)))) × (i ≤ count) ⌝ }
+{
+    let mut i = 0;
+    let mut at = 0;
+    while i < count {
+        let e = at + ROW;
+        if body_of(&r[at..e]) == w {
+            return i;
+        }
+        at = e;
+        i += 1;
+    }
+    i
 }
