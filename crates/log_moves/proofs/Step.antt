@@ -9,7 +9,7 @@ use lib.ListN.{length, take, drop, getD, set, replicate, take-append-drop, lengt
 use lib.Seq.{getD-take, getD-set-same, take-take, take-set-le, drop-set-lt, drop-cons, drop-drop}
 use borrow.Author.Tests.{le-ltb, eq-eqb}
 use Rattle.lists.specs.Tests.{every}
-use Rattle.lists.specs.Facts.{_∈_, either, here, none-in, both, clash, is-true, is-false, not-from, every-at}
+use Rattle.lists.specs.Facts.{_∈_, either, here, none-in, is-true, is-false, not-from, every-at}
 use Rattle.lists.specs.Order.{keyBefore, rising}
 use Rattle.lists.specs.Sorted.{before-trans}
 use Rattle.lists.specs.Neighbours.{rising-front}
@@ -189,8 +189,8 @@ module _ (known low : Stamp) (r₀ r : List ℕ) (count i kept : ℕ) (h : i < c
         let l : length p ≡ length r = length-patch (kept * rowLong) rowLong r (mid (i * rowLong) rowLong r) room wide in
         records-snoc kept p
         ∙ ap₂ (λ (rs : List Record) (x : List ℕ). rs ++ (recordAt x ∷ []))
-            (records-same kept p r (omega arith) (omega arith) (take-before (kept * rowLong) rowLong r (mid (i * rowLong) rowLong r) (kept * rowLong) room wide (omega arith)))
-            (mid-patch (kept * rowLong) rowLong r (mid (i * rowLong) rowLong r) room wide)
+        (records-same kept p r (omega arith) (omega arith) (take-before (kept * rowLong) rowLong r (mid (i * rowLong) rowLong r) (kept * rowLong) room wide (omega arith)))
+        (mid-patch (kept * rowLong) rowLong r (mid (i * rowLong) rowLong r) room wide)
 
     pub drop-moved :
         goesBy known low (recordFrom r (i * rowLong)) ≡ false

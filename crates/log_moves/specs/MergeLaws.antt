@@ -5,7 +5,7 @@
 --     fresh-rest       the others are fresh to what is left
 --     length-gathered  each new record makes the log one longer
 --     every-gathered   what holds of the new and of the old holds of all
-use Prim.Native.Nat.{ℕ, _+_}
+use Prim.Native.Nat.{_+_}
 use mathlib.Core.Path.{_≡_, refl, sym, ap, subst, _∙_}
 use mathlib.Core.Bool.{Bool, true, false, not}
 use mathlib.Core.List.{List, [], _∷_, _++_, Memᴰ·append-left, Memᴰ·append-right, List·Memᴰ·cases-cons}
@@ -13,7 +13,7 @@ use lib.Dec.{T}
 use lib.ListN.{length}
 use Rattle.lists.specs.Tests.{every}
 use Rattle.lists.specs.Order.{keyBefore, insertAll}
-use Rattle.lists.specs.Facts.{_∈_, either, here, none-in, keep-mem, every-at, every-from}
+use Rattle.lists.specs.Facts.{_∈_, either, here, keep-mem, every-at, every-from}
 use Rattle.lists.specs.Sorted.{before-trans, keep-rising}
 use Rattle.lists.specs.Neighbours.{rising-front}
 use Rattle.ledger.specs.Record.{Record, place}

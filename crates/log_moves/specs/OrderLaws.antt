@@ -15,7 +15,7 @@ use lib.Dec.{T}
 use lib.ListN.{length}
 use Rattle.lists.specs.Tests.{every, keep}
 use Rattle.lists.specs.Order.{keyBefore, rising, insert, insertAll}
-use Rattle.lists.specs.Facts.{_∈_, either, and-l, and-r, here, there, none-in, every-at, is-true, is-false}
+use Rattle.lists.specs.Facts.{_∈_, either, and-l, and-r, here, there, none-in, every-at, is-true}
 use Rattle.lists.specs.Sorted.{before-trans, before-irrefl, before-total, put-all}
 use Rattle.lists.specs.MoreFacts.{OneMore, at, later, insert-new}
 
@@ -38,11 +38,12 @@ module _ {A : Type 0} where
 
   module _ (p : A → Bool) (xs ys : List A) (fails : (x : A) → x ∈ xs → p x ≡ false) (passes : (y : A) → y ∈ ys → p y ≡ true) where
     pub parts-of : (keep (λ x. not (p x)) (xs ++ ys) ≡ xs) × (keep p (xs ++ ys) ≡ ys)
-    parts-of =
-        (keep-append (λ x. not (p x)) xs ys
-        ∙ ap₂ _++_ (keep-passing (λ x. not (p x)) xs (λ x m. ap not (fails x m))) (keep-failing (λ x. not (p x)) ys (λ y m. ap not (passes y m)))
-        ∙ append-nil xs,
-        keep-append p xs ys ∙ ap₂ _++_ (keep-failing p xs fails) (keep-passing p ys passes))
+    parts-of = (
+      keep-append (λ x. not (p x)) xs ys
+          ∙ ap₂ _++_ (keep-passing (λ x. not (p x)) xs (λ x m. ap not (fails x m))) (keep-failing (λ x. not (p x)) ys (λ y m. ap not (passes y m)))
+          ∙ append-nil xs,
+      keep-append p xs ys ∙ ap₂ _++_ (keep-failing p xs fails) (keep-passing p ys passes),
+    )
 
 module _ {A : Type 0} (key : A → List ℕ) where
   first-before : (x : A) (xs : List A) → T (rising key (x ∷ xs)) → {z : A} → z ∈ xs → T (keyBefore (key x) (key z))

@@ -4,24 +4,25 @@
 --     merged-end     with nothing to come the region stands
 --     merged-words   on the log's region, with the rows behind it zero
 --     dropped-words  the same of the drop
-use Prim.Native.Nat.{ℕ, zero, suc, _+_, _-_, _*_, _≤_}
+--     stayers-remaining  what stays is what remains
+use Prim.Native.Nat.{ℕ, zero, _+_, _-_, _*_, _≤_}
 use native.Mathlib.Omega.{arith}
-use mathlib.Core.Path.{_≡_, refl, sym, ap, ap₂, subst, _∙_}
+use mathlib.Core.Path.{_≡_, refl, sym, ap, subst, _∙_}
 use mathlib.Core.Bool.{not}
 use mathlib.Core.List.{List, [], _∷_, _++_, map, append-assoc, append-nil}
 use lib.Dec.{T}
-use lib.ListN.{length, take, drop, replicate, length-append, length-replicate, replicate-append-replicate, take-append-drop}
+use lib.ListN.{length, drop, replicate, length-append, length-replicate, replicate-append-replicate, take-append-drop}
 use lib.Seq.{drop-append-add, drop-at}
-use Rattle.lists.specs.Facts.{keep-le}
+use Rattle.lists.specs.Facts.{_∈_, keep-le}
 use Rattle.lists.specs.Rows.{flat}
-use Rattle.lists.specs.Tests.{every}
+use Rattle.lists.specs.Tests.{every, keep}
 use Rattle.stamp.specs.Stamp.{Stamp}
 use Rattle.ledger.specs.Record.{Record}
-use Rattle.ledger.specs.Log.{gathered}
-use Rattle.log.specs.Lowest.{goesBy}
+use Rattle.ledger.specs.Log.{gathered, remaining}
+use Rattle.log.specs.Lowest.{lowestFrom, goesBy, mayGo-lowest}
 use Rattle.log.specs.Region.{rowLong, recordAt, rowOf, recordsAt, logWords}
 use Rattle.log.specs.RegionLaws.{eightParts, row-record, records-words, length-log}
-use Rattle.log_moves.specs.Merge.{beforeOf, afterOf, Fresh, Slid, merged, stayers, dropped}
+use Rattle.log_moves.specs.Merge.{afterOf, Fresh, Slid, merged, stayers, dropped}
 use Rattle.log_moves.specs.MergeLaws.{gathered-none, gathered-last, fresh-rest, length-gathered}
 use Rattle.log_moves.specs.RowLaws.{flat-records}
 
@@ -62,6 +63,11 @@ pub stayers-le : (known low : Stamp) (rs : List Record) → length (stayers know
 unfolding stayers
 stayers-le known low rs = keep-le (λ r. not (goesBy known low r)) rs
 
+-- by the lowest stamp of the table they are the records that remain
+pub stayers-remaining : (s : Stamp) (rows : List Stamp) (rs : List Record) → s ∈ rows → stayers s (lowestFrom s rows) rs ≡ remaining s rows rs
+unfolding stayers remaining
+stayers-remaining s rows rs among = sym (λ i. keep (λ r. not (mayGo-lowest s rows among r i)) rs)
+
 -- what stands past the rows in use, and past a gap behind them
 module _ (room : ℕ) (rs : List Record) (eight : T (every eightParts rs)) where
   pub words-past : (m : ℕ) → length rs + m ≤ room → drop ((length rs + m) * rowLong) (logWords room rs) ≡ replicate ((room - (length rs + m)) * rowLong) 0
@@ -75,7 +81,7 @@ module _ (room : ℕ) (rs : List Record) (eight : T (every eightParts rs)) where
       let s : (room - length rs) * rowLong ≡ m * rowLong + (room - (length rs + m)) * rowLong = omega arith in
       rw a (drop-append-add f zeros (m * rowLong)
       ∙ rw (s, ← replicate-append-replicate {A = ℕ} (m * rowLong) ((room - (length rs + m)) * rowLong) 0)
-          (drop-at (replicate (m * rowLong) 0) (replicate ((room - (length rs + m)) * rowLong) 0) (m * rowLong) (length-replicate (m * rowLong) 0)))
+      (drop-at (replicate (m * rowLong) 0) (replicate ((room - (length rs + m)) * rowLong) 0) (m * rowLong) (length-replicate (m * rowLong) 0)))
 
   read : recordsAt (length rs) (logWords room rs) ≡ rs
   read = ap (recordsAt (length rs)) (sym (append-nil (logWords room rs))) ∙ records-words room rs [] eight

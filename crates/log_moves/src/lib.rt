@@ -1,4 +1,7 @@
 // Rows of the log moved in place: new records merged in from the back, records that may go dropped from the front.
+use log::NUMBER;
+use log::ORIGIN;
+use log::ROW;
 use log::goes;
 ghost use mathlib.Core.Path.{_≡_};
 ghost use mathlib.Core.List.{[], _∷_, _++_};
@@ -8,15 +11,10 @@ ghost use lib.ListN.{length, take, drop, replicate};
 ghost use Rattle.lists.specs.Order.{keyBefore, rising};
 ghost use Rattle.lists.specs.Part.{mid, patch};
 ghost use Rattle.ledger.specs.Record.{place};
-ghost use Rattle.log.specs.Region.{rowLong, recordAt, recordsAt};
+ghost use Rattle.log.specs.Region.{rowLong, stampLong, recordAt, recordsAt};
 ghost use Rattle.log.specs.Lowest.{goesBy};
 ghost use Rattle.log.specs.Walk.{recordFrom};
 ghost use Rattle.log_moves.specs.Merge.{Fresh, Parted, Shifted, Slid, merged, stayers, dropped};
-
-// A row's words, and where the two stand that order the rows.
-const ROW: usize = 11;
-const ORIGIN: usize = 0;
-const NUMBER: usize = 1;
 
 // Whether row a stands before row b: by origin, then number.
 fn stands_before(a: &[u64], b: &[u64]) -> bool
@@ -115,7 +113,7 @@ pub fn put_one(r: &mut [u64], count: usize, row: &[u64])
 
 // Whether the i-th row may go.
 fn goes_at(r: &[u64], i: usize, known: &[u64], low: &[u64]) -> bool
-    requires { ⌜ (i * rowLong + rowLong ≤ length (now r)) × (length (now known) ≡ 8) ⌝ }
+    requires { ⌜ (i * rowLong + rowLong ≤ length (now r)) × (length (now known) ≡ stampLong) ⌝ }
     ensures { λ b. ⌜ b ≡ goesBy (now (known .entry)) (now (low .entry)) (recordFrom (now (r .entry)) (i * rowLong)) ⌝ }
 {
     let at = i * ROW;
@@ -123,7 +121,7 @@ fn goes_at(r: &[u64], i: usize, known: &[u64], low: &[u64]) -> bool
     goes(&r[at..e], known, low)
 }
 
-// One row copied over another; a row that stays in its place is not touched.
+// A row copied over one before it, by way of an array of its own; a row over itself is not touched.
 fn move_row(r: &mut [u64], from: usize, to: usize)
     requires { ⌜ (from * rowLong + rowLong ≤ length (now r)) × (to ≤ from) ⌝ }
     ensures { λ _. ⌜ now (r .exit) ≡ patch (to * rowLong) rowLong (now (r .entry)) (mid (from * rowLong) rowLong (now (r .entry))) ⌝ }
@@ -131,7 +129,7 @@ fn move_row(r: &mut [u64], from: usize, to: usize)
     if to == from {
         return;
     }
-    let mut row = [0u64; 11];
+    let mut row = [0u64; ROW];
     let at = from * ROW;
     let e = at + ROW;
     copy(&mut row, &r[at..e]);
@@ -150,9 +148,9 @@ fn clear(r: &mut [u64], from: usize, to: usize)
     }
 }
 
-// The rows that may go dropped from the first of them, and the rest closed up. Gives how many stay.
+// Of the first rows those that may go dropped, the others closed up in their order, and zeros behind them. Gives how many stay.
 pub fn drop_rows(r: &mut [u64], count: usize, known: &[u64], low: &[u64]) -> usize
-    requires { ⌜ (count * rowLong ≤ length (now r)) × (length (now known) ≡ 8) ⌝ }
+    requires { ⌜ (count * rowLong ≤ length (now r)) × (length (now known) ≡ stampLong) ⌝ }
     ensures { λ n. ⌜ (now (r .exit) ≡ dropped (now (known .entry)) (now (low .entry)) count (now (r .entry))) × (n ≡ length (stayers (now (known .entry)) (now (low .entry)) (recordsAt count (now (r .entry))))) × (n ≤ count) ⌝ }
 {
     let mut kept = 0;
