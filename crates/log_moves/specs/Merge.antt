@@ -62,3 +62,9 @@ stayers known low rs = keep (λ r. not (goesBy known low r)) rs
 unfoldable pub dropped : Stamp → Stamp → ℕ → List ℕ → List ℕ
 dropped known low n l =
     flat (map rowOf (stayers known low (recordsAt n l))) ++ (replicate ((n - length (stayers known low (recordsAt n l))) * rowLong) 0 ++ drop (n * rowLong) l)
+
+-- rows dropped: the region is as said, and k of the first n records stay
+pub record Closed (known low : Stamp) (n : ℕ) (old new : List ℕ) (k : ℕ) : Type 0 where
+  pub words : new ≡ dropped known low n old
+  pub count : k ≡ length (stayers known low (recordsAt n old))
+  pub fewer : k ≤ n

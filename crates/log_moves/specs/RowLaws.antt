@@ -5,13 +5,14 @@
 --     records-same   two regions with the same first words hold the same first records
 --     flat-records   the records laid out again are the region's first words
 --     words-after    the words of the rows from the n-th up to the i-th
+--     take-before    the words before a part that is put
 use Prim.Native.Nat.{ℕ, zero, suc, _+_, _-_, _*_, _≤_}
 use native.Mathlib.Omega.{arith}
 use mathlib.Core.Path.{_≡_, refl, sym, ap, ap₂, _∙_}
 use mathlib.Core.List.{List, [], _∷_, _++_, map}
 use lib.ListN.{length, take, drop, length-drop, take-append-drop}
 use lib.Seq.{length-take-le, take-append-le, drop-append-le, drop-drop, take-add}
-use Rattle.lists.specs.Part.{mid}
+use Rattle.lists.specs.Part.{mid, patch, mid-patch-before}
 use Rattle.lists.specs.Rows.{rows, flat}
 use Rattle.ledger.specs.Record.{Record}
 use Rattle.log.specs.Region.{rowLong, recordAt, rowOf, recordsAt}
@@ -65,3 +66,8 @@ unfolding recordsFrom mid
 words-after i n l h k =
     let e : i * rowLong - n * rowLong ≡ (i - n) * rowLong = omega arith in
     flat-records (i - n) (drop (n * rowLong) l) (simp length-drop (omega arith)) ∙ rw e
+
+-- the words before a part that is put
+pub take-before : (a k : ℕ) (r ys : List ℕ) (b : ℕ) → a + k ≤ length r → length ys ≡ k → b ≤ a → take b (patch a k r ys) ≡ take b r
+unfolding mid
+take-before a k r ys b h e l = mid-patch-before a k r ys h e 0 b (omega arith)

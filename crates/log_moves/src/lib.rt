@@ -14,7 +14,7 @@ ghost use Rattle.ledger.specs.Record.{place};
 ghost use Rattle.log.specs.Region.{rowLong, stampLong, recordAt, recordsAt};
 ghost use Rattle.log.specs.Lowest.{goesBy};
 ghost use Rattle.log.specs.Walk.{recordFrom};
-ghost use Rattle.log_moves.specs.Merge.{Fresh, Parted, Shifted, Slid, merged, stayers, dropped};
+ghost use Rattle.log_moves.specs.Merge.{Fresh, Parted, Shifted, Slid, merged, Closed};
 
 // Whether row a stands before row b: by origin, then number.
 fn stands_before(a: &[u64], b: &[u64]) -> bool
@@ -151,7 +151,7 @@ fn clear(r: &mut [u64], from: usize, to: usize)
 // Of the first rows those that may go dropped, the others closed up in their order, and zeros behind them. Gives how many stay.
 pub fn drop_rows(r: &mut [u64], count: usize, known: &[u64], low: &[u64]) -> usize
     requires { ⌜ (count * rowLong ≤ length (now r)) × (length (now known) ≡ stampLong) ⌝ }
-    ensures { λ n. ⌜ (now (r .exit) ≡ dropped (now (known .entry)) (now (low .entry)) count (now (r .entry))) × (n ≡ length (stayers (now (known .entry)) (now (low .entry)) (recordsAt count (now (r .entry))))) × (n ≤ count) ⌝ }
+    ensures { λ n. ⌜ Closed (now (known .entry)) (now (low .entry)) count (now (r .entry)) (now (r .exit)) n ⌝ }
 {
     let mut kept = 0;
     let mut i = 0;

@@ -5,7 +5,7 @@ use mathlib.Core.Path.{_≡_, sym, _∙_}
 use mathlib.Core.List.{_++_}
 use lib.ListN.{length, take, drop, replicate, length-set}
 use lib.Seq.{drop-set-lt}
-use Rattle.log_moves.proofs.Step.{zeroed-more, zeroed-end}
+use Rattle.log_moves.proofs.Drop.{zeroed-more, zeroed-end}
 use borrow.Author.Needs.{needs}
 use Rattle.log_moves.proofs.clear.Statement.{statement}
 use Rattle.log_moves.proofs.clear.Tie as tie

@@ -4,7 +4,7 @@ use native.Mathlib.Omega.{arith}
 use mathlib.Core.Path.{_≡_, sym}
 use Rattle.lists.specs.Part.{mid}
 use Rattle.log.specs.Region.{rowLong}
-use Rattle.log_moves.proofs.Step.{patch-self}
+use Rattle.log_moves.proofs.Drop.{patch-self}
 use borrow.Author.Needs.{needs}
 use Rattle.log_moves.proofs.move_row.Statement.{statement}
 use Rattle.log_moves.proofs.move_row.Tie as tie

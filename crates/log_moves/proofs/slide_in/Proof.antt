@@ -1,5 +1,5 @@
 -- `log_moves::slide_in` meets its contract. Assumes nothing.
-use Rattle.log_moves.proofs.Step.{slid}
+use Rattle.log_moves.proofs.Slide.{slid}
 use borrow.Author.Needs.{needs}
 use Rattle.log_moves.proofs.slide_in.Statement.{statement}
 use Rattle.log_moves.proofs.slide_in.Tie as tie

@@ -1,5 +1,5 @@
 -- `log_moves::stands_before` meets its contract. Assumes nothing.
-use Rattle.log_moves.proofs.Step.{second-decides}
+use Rattle.log_moves.proofs.Slide.{second-decides}
 use lib.ListN.{getD}
 use borrow.Author.Tests.{le-ltb, lt-ltb, ne-eqb}
 use borrow.Author.Needs.{needs}
