@@ -2,7 +2,7 @@
 use Prim.Native.Nat.{ℕ, suc, _+_, _-_, _≤_, _<_, min}
 use native.Mathlib.Omega.{arith}
 use native.Mathlib.Nat.{sub-zero}
-use mathlib.Core.Path.{_≡_, refl, sym, ap, ap₂, _∙_}
+use mathlib.Core.Path.{_≡_, sym, ap, _∙_}
 use mathlib.Core.Bool.{Bool, true, false, _&&_, and-false, or-false}
 use mathlib.Core.List.{List, [], _∷_, _++_, append-nil}
 use lib.Dec.{T, leb, ltb}
@@ -20,9 +20,9 @@ use Rattle.stamp.specs.Parts.{partsAt, listOf}
 use Rattle.stamp.specs.PartsLaws.{list-parts}
 use Rattle.ledger.specs.Log.{waitingIn}
 use Rattle.ledger.specs.Record.{Record, place, isWaiting}
-use Rattle.log.specs.Region.{rowLong}
+use Rattle.log.specs.Region.{rowLong, stampLong}
 use Rattle.log.specs.Lowest.{meet, lowestFrom}
-use Rattle.log.specs.Walk.{recordsFrom, recordFrom, lentAt, record-lent, records-next, records-none}
+use Rattle.log.specs.Walk.{recordsFrom, lentAt, record-lent, records-next, records-none}
 use Rattle.log.specs.Held.{holdsAll, climbed, climb, climb-holds}
 use Rattle.log.specs.First.{firstWith}
 
@@ -40,18 +40,18 @@ meet-end a b i h = rw (drop-of-length-le a h, take-all i a h) (append-nil a)
 
 -- the table's rows from the i-th of n on, which starts at a place
 abbrev pub lowestRest : Stamp → List ℕ → ℕ → ℕ → ℕ → Stamp
-lowestRest low table n i at = lowestFrom low (rows 8 (n - i) (drop at table))
+lowestRest low table n i at = lowestFrom low (rows stampLong (n - i) (drop at table))
 
-pub lowest-start : (low : Stamp) (table : List ℕ) (n : ℕ) → lowestFrom low (rows 8 n table) ≡ lowestRest low table n 0 0
+pub lowest-start : (low : Stamp) (table : List ℕ) (n : ℕ) → lowestFrom low (rows stampLong n table) ≡ lowestRest low table n 0 0
 lowest-start low table n = rw sub-zero
 
 pub lowest-more :
-    (low : Stamp) (table : List ℕ) (n i at : ℕ) → i < n → lowestRest low table n i at ≡ lowestRest (meet low (take (at + 8 - at) (drop at table))) table n (i + 1) (at + 8)
+    (low : Stamp) (table : List ℕ) (n i at : ℕ) → i < n → lowestRest low table n i at ≡ lowestRest (meet low (take (at + stampLong - at) (drop at table))) table n (i + 1) (at + stampLong)
 unfolding lowestFrom rows
 lowest-more low table n i at h =
     let e : n - i ≡ suc (n - (i + 1)) = omega arith in
-    let f : at + 8 - at ≡ 8 = omega arith in
-    rw (e, f, drop-drop 8 at table)
+    let f : at + stampLong - at ≡ stampLong = omega arith in
+    rw (e, f, drop-drop stampLong at table)
 
 pub lowest-end : (low : Stamp) (table : List ℕ) (n i at : ℕ) → n ≤ i → lowestRest low table n i at ≡ low
 unfolding lowestFrom rows
@@ -146,8 +146,8 @@ below-last p k h =
 
 -- the climb from a copy of the start
 pub held-climb :
-    (n : ℕ) (start end reached : Stamp) (rs : List Record) → T (rising place rs) → (length start ≡ 8) × (n ≤ 8) → reached ≡ climb (listOf (partsAt 0 start)) rs
+    (n : ℕ) (start end reached : Stamp) (rs : List Record) → T (rising place rs) → (length start ≡ stampLong) × (n ≤ stampLong) → reached ≡ climb (listOf (partsAt 0 start)) rs
     → allBelow n (λ k. leb (part end k) (part reached k)) ≡ holdsAll n start end rs
 held-climb n start end reached rs o h e =
-    let copy : listOf (partsAt 0 start) ≡ start = list-parts 0 start (omega arith) ∙ take-all 8 start (omega arith) in
+    let copy : listOf (partsAt 0 start) ≡ start = list-parts 0 start (omega arith) ∙ take-all stampLong start (omega arith) in
     rw (e, copy) (sym (climb-holds n start end rs o (omega arith)))

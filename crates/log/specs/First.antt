@@ -1,4 +1,8 @@
 -- The first record with a body: its place in the list, the list's length if there is none. Assumes nothing.
+--     first-le      the place is at most the list's length
+--     first-found   there is one exactly when it is below
+--     first-body    the record there has the body
+--     first-least   none before it has
 use Prim.Native.Nat.{ℕ, zero, suc, _≤_, _<_}
 use native.Mathlib.Omega.{arith}
 use mathlib.Core.Path.{_≡_, refl, sym, _∙_}
@@ -33,7 +37,11 @@ first-found w (r ∷ rs) = go (eqb (r .body) w) (first-found w rs)
   where
     go : (c : Bool) → exists (λ x. eqb (x .body) w) rs ≡ ltb (firstWith w rs) (length rs) → (c || exists (λ x. eqb (x .body) w) rs) ≡ ltb (cond c 0 (suc (firstWith w rs))) (suc (length rs))
     go true e = sym (lt-ltb 0 (suc (length rs)) (omega arith))
-    go false e = e ∙ same-test (ltb (firstWith w rs) (length rs)) (ltb (suc (firstWith w rs)) (suc (length rs))) (λ t. lt→ltb (suc (firstWith w rs)) (suc (length rs)) (omega (arith, ltb→lt (firstWith w rs) (length rs) t))) (λ t. lt→ltb (firstWith w rs) (length rs) (omega (arith, ltb→lt (suc (firstWith w rs)) (suc (length rs)) t)))
+    go false e =
+        e
+        ∙ same-test (ltb (firstWith w rs) (length rs)) (ltb (suc (firstWith w rs)) (suc (length rs)))
+        (λ t. lt→ltb (suc (firstWith w rs)) (suc (length rs)) (omega (arith, ltb→lt (firstWith w rs) (length rs) t)))
+        (λ t. lt→ltb (firstWith w rs) (length rs) (omega (arith, ltb→lt (suc (firstWith w rs)) (suc (length rs)) t)))
 
 -- it has that body, and none before it has
 pub first-body : (w : ℕ) (rs : List Record) (d : Record) → firstWith w rs < length rs → getD rs (firstWith w rs) d .body ≡ w

@@ -5,21 +5,21 @@
 --     gapless-climb   a message has no gap
 use Prim.Native.Nat.{ℕ, suc, _≤_, _<_}
 use native.Mathlib.Omega.{arith}
-use mathlib.Core.Path.{_≡_, refl, sym, ap, subst, _∙_}
+use mathlib.Core.Path.{_≡_, refl, sym, ap, _∙_}
 use mathlib.Core.Logic.{_⊎_, _≢_, inl, inr}
-use mathlib.Core.Bool.{Bool, true, false, _&&_, _||_, cond, or-comm}
+use mathlib.Core.Bool.{Bool, _&&_, _||_, cond, or-comm}
 use mathlib.Core.List.{List, [], _∷_, List·Memᴰ·cases-cons}
-use lib.Dec.{T, leb, ltb, eqb, leb→le, le→leb, eqb→eq}
+use lib.Dec.{T, leb, ltb, eqb, leb→le, le→leb}
 use lib.ListN.{length, set, length-set}
 use lib.Seq.{getD-set-same, getD-set-other}
 use borrow.Author.Tests.{eq-eqb, ne-eqb}
 use Rattle.lists.specs.Scan.{le-or-lt}
 use Rattle.lists.specs.Tests.{allBelow, every}
 use Rattle.lists.specs.Order.{rising, keyBefore}
-use Rattle.lists.specs.Facts.{_∈_, here, there, either, and-l, and-r, or-cases, or-l, or-r, every-at, allBelow-at, allBelow-from, same-test}
+use Rattle.lists.specs.Facts.{_∈_, here, either, and-l, and-r, or-cases, or-l, or-r, every-at, allBelow-at, allBelow-from, same-test}
 use Rattle.lists.specs.MoreFacts.{same-or-not, below-same}
 use Rattle.stamp.specs.Stamp.{Stamp, part}
-use Rattle.ledger.specs.Record.{Record, place, has, everywhere}
+use Rattle.ledger.specs.Record.{Record, place, has}
 use Rattle.ledger.specs.RecordLaws.{has-at, has-from}
 use Rattle.ledger.specs.Log.{allHeld, gapless}
 use Rattle.ledger.specs.LogLaws.{place-after}
@@ -54,7 +54,9 @@ abbrev Stays : Stamp → Record → ℕ → Type 0
 Stays s x k = (x .origin ≡ k → x .number ≢ suc (part s k)) × (part (climbed s x) k ≡ part s k)
 
 one-record : (s : Stamp) (x : Record) (k : ℕ) → k < length s → Raises s x k ⊎ Stays s x k
-one-record s x k h = either (same-or-not k (x .origin)) (λ e. at e (same-or-not (x .number) (suc (part s k)))) (λ e. inr (λ e′. absurd (e (sym e′)), getD-set-other s (x .origin) k (raised (part s (x .origin)) (x .number)) 0 e))
+one-record s x k h =
+    either (same-or-not k (x .origin)) (λ e. at e (same-or-not (x .number) (suc (part s k))))
+    (λ e. inr (λ e′. absurd (e (sym e′)), getD-set-other s (x .origin) k (raised (part s (x .origin)) (x .number)) 0 e))
   where
     there-set : k ≡ x .origin → part (climbed s x) k ≡ raised (part s k) (x .number)
     there-set e = ap (λ (j : ℕ). part (set s j (raised (part s j) (x .number))) k) (sym e) ∙ getD-set-same s k (raised (part s k) (x .number)) 0 h
@@ -89,7 +91,9 @@ found (x ∷ xs) s k e h l q b =
 
 finds : (rs : List Record) (s : Stamp) (k e : ℕ) → k < length s → T (rising place rs) → Found rs s k e → e ≤ part (climb s rs) k
 unfolding climb
-finds [] s k e h o f = either (le-or-lt e (part s k)) (λ l. l) (λ l. absurd (either (f (part s k) l) (λ t. none-has k (suc (part s k)) t) (λ t. omega arith)))
+finds [] s k e h o f =
+    either (le-or-lt e (part s k)) (λ l. l)
+    (λ l. absurd (either (f (part s k) l) (λ t. none-has k (suc (part s k)) t) (λ t. omega arith)))
 finds (x ∷ xs) s k e h o f =
     finds xs (climbed s x) k e (rw (length-set s (x .origin) (raised (part s (x .origin)) (x .number))) h) (and-r (every (λ y. keyBefore (place x) (place y)) xs) (rising place xs) o)
     (λ q b. either (le-or-lt (suc q) (part (climbed s x) k)) (λ l. inr l) (λ l. above q b l (one-record s x k h)))
@@ -105,21 +109,34 @@ finds (x ∷ xs) s k e h o f =
         gone : ((r : Record) × (r ∈ x ∷ xs) × (r .origin ≡ k) × (r .number ≡ suc (part s k))) → ⊥
         gone w = either (List·Memᴰ·cases-cons (w .1)) (λ u. omega (arith, ap (λ (y : Record). y .number) u, w .3)) (λ m. omega (arith, later (w .0) m (w .2 ∙ sym c), w .3))
 
+    -- x itself is no number above the climb: it would be the next, or have passed the next
+    not-x : (q : ℕ) → q < e → part (climbed s x) k < suc q → x .origin ≡ k → x .number ≡ suc q → Raises s x k ⊎ Stays s x k → ⊥
+    not-x q b l c d (inl v) = omega (arith, v .1, v .2)
+    not-x q b l c d (inr v) = either (same-or-not (part s k) q) (λ y. v .0 c (d ∙ ap suc (sym y))) (λ y. passed q b c d (omega (arith, v .1, y)))
+
     above : (q : ℕ) → q < e → part (climbed s x) k < suc q → Raises s x k ⊎ Stays s x k → T (has xs k (suc q)) ⊎ (suc q ≤ part (climbed s x) k)
-    above q b l u = either (f q b) (λ t. inl (among u (has-at (x ∷ xs) k (suc q) t))) (λ t. absurd (either u (λ v. omega (arith, v .2)) (λ v. omega (arith, v .1))))
+    above q b l u = either (f q b) (λ t. inl (among (has-at (x ∷ xs) k (suc q) t))) (λ t. absurd (either u (λ v. omega (arith, v .2)) (λ v. omega (arith, v .1))))
       where
-        among : Raises s x k ⊎ Stays s x k → ((r : Record) × (r ∈ x ∷ xs) × (r .origin ≡ k) × (r .number ≡ suc q)) → T (has xs k (suc q))
-        among u w = either (List·Memᴰ·cases-cons (w .1)) (λ c. first u (ap (λ (y : Record). y .origin) (sym c) ∙ w .2) (ap (λ (y : Record). y .number) (sym c) ∙ w .3)) (λ m. has-from xs k (suc q) (w .0) m (w .2) (w .3))
-          where
-            first : Raises s x k ⊎ Stays s x k → x .origin ≡ k → x .number ≡ suc q → T (has xs k (suc q))
-            first (inl v) c d = absurd (omega (arith, v .1, v .2))
-            first (inr v) c d = absurd (either (same-or-not (part s k) q) (λ y. v .0 c (d ∙ ap suc (sym y))) (λ y. passed q b c d (omega (arith, v .1, y))))
+        among : ((r : Record) × (r ∈ x ∷ xs) × (r .origin ≡ k) × (r .number ≡ suc q)) → T (has xs k (suc q))
+        among w =
+            either (List·Memᴰ·cases-cons (w .1)) (λ c. absurd (not-x q b l (ap (λ (y : Record). y .origin) (sym c) ∙ w .2) (ap (λ (y : Record). y .number) (sym c) ∙ w .3) u))
+            (λ m. has-from xs k (suc q) (w .0) m (w .2) (w .3))
+
+-- the same facts as tests
+test-found : (rs : List Record) (s : Stamp) (k e : ℕ) → T (allBelow e (λ q. has rs k (suc q) || leb (suc q) (part s k))) → Found rs s k e
+test-found rs s k e t q b =
+    either (or-cases (has rs k (suc q)) (leb (suc q) (part s k)) (allBelow-at e (λ i. has rs k (suc i) || leb (suc i) (part s k)) t q b)) (λ u. inl u) (λ u. inr (leb→le (suc q) (part s k) u))
+
+found-test : (rs : List Record) (s : Stamp) (k e : ℕ) → Found rs s k e → T (allBelow e (λ q. has rs k (suc q) || leb (suc q) (part s k)))
+found-test rs s k e f =
+    allBelow-from e (λ q. has rs k (suc q) || leb (suc q) (part s k))
+    (λ q b. either (f q b) (λ u. or-l (has rs k (suc q)) (leb (suc q) (part s k)) u) (λ u. or-r (has rs k (suc q)) (leb (suc q) (part s k)) (le→leb (suc q) (part s k) u)))
 
 pub climb-part : (rs : List Record) (s : Stamp) → T (rising place rs) → (k e : ℕ) → k < length s → allBelow e (λ q. has rs k (suc q) || leb (suc q) (part s k)) ≡ leb e (part (climb s rs) k)
 climb-part rs s o k e h =
     same-test (allBelow e (λ q. has rs k (suc q) || leb (suc q) (part s k))) (leb e (part (climb s rs) k))
-    (λ t. le→leb e (part (climb s rs) k) (finds rs s k e h o (λ q b. either (or-cases (has rs k (suc q)) (leb (suc q) (part s k)) (allBelow-at e (λ i. has rs k (suc i) || leb (suc i) (part s k)) t q b)) (λ u. inl u) (λ u. inr (leb→le (suc q) (part s k) u)))))
-    (λ t. allBelow-from e (λ q. has rs k (suc q) || leb (suc q) (part s k)) (λ q b. either (found rs s k e h (leb→le e (part (climb s rs) k) t) q b) (λ u. or-l (has rs k (suc q)) (leb (suc q) (part s k)) u) (λ u. or-r (has rs k (suc q)) (leb (suc q) (part s k)) (le→leb (suc q) (part s k) u))))
+    (λ t. le→leb e (part (climb s rs) k) (finds rs s k e h o (test-found rs s k e t)))
+    (λ t. found-test rs s k e (found rs s k e h (leb→le e (part (climb s rs) k) t)))
 
 pub climb-holds : (n : ℕ) (start end : Stamp) (rs : List Record) → T (rising place rs) → n ≤ length start → holdsAll n start end rs ≡ allBelow n (λ k. leb (part end k) (part (climb start rs) k))
 unfolding holdsAll

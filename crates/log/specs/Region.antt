@@ -6,9 +6,12 @@ use lib.ListN.{length, getD, take, drop, replicate}
 use Rattle.lists.specs.Rows.{rows, flat}
 use Rattle.ledger.specs.Record.{Record}
 
--- a row's length
+-- a row's length, and a stamp's
 abbrev pub rowLong : ℕ
 rowLong = 11
+
+abbrev pub stampLong : ℕ
+stampLong = 8
 
 -- the record that a row holds, and the row of a record
 abbrev pub recordAt : List ℕ → Record

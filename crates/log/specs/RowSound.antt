@@ -3,7 +3,7 @@
 --     rowsSound-is    one test of all records is its four clauses, each of all records
 --     recordFits-is   the field rules are those of the fields and that of the body
 use Prim.Native.Nat.{ℕ, _<_}
-use mathlib.Core.Path.{_≡_, refl, ap, ap₂, _∙_}
+use mathlib.Core.Path.{_≡_, refl, ap, _∙_}
 use mathlib.Core.Bool.{Bool, true, false, not, _&&_, _||_}
 use mathlib.Core.List.{List}
 use lib.Dec.{leb, ltb}

@@ -1,4 +1,5 @@
 // The log on a lent slice: rows of eleven words, by origin, then number. Knows nothing of what a body means.
+use stamp::PARTS;
 use stamp::at_most;
 use stamp::fits;
 use stamp::list_of;
@@ -14,27 +15,24 @@ ghost use Rattle.lists.specs.Rows.{rows};
 ghost use Rattle.lists.specs.Tests.{allBelow, every};
 ghost use Rattle.stamp.specs.Stamp.{part};
 ghost use Rattle.ledger.specs.Log.{waitingIn};
-ghost use Rattle.ledger.specs.Record.{Record, place, isKnown, isApplied, isWaiting, recordFits};
-ghost use Rattle.log.specs.Region.{rowLong, recordAt, recordsAt};
+ghost use Rattle.ledger.specs.Record.{place, isKnown, isApplied, isWaiting, recordFits};
+ghost use Rattle.log.specs.Region.{rowLong, stampLong, recordAt, recordsAt};
 ghost use Rattle.log.specs.Lowest.{meet, lowestFrom, goesBy};
 ghost use Rattle.log.specs.RowSound.{rowSound};
 ghost use Rattle.log.specs.Held.{raised, climbed, climb, holdsAll};
 ghost use Rattle.log.specs.First.{firstWith};
 
 // A row's words.
-const ROW: usize = 11;
+pub const ROW: usize = 11;
 
 // Where the words of a row stand; the label is from LABEL to BODY.
-const ORIGIN: usize = 0;
+pub const ORIGIN: usize = 0;
 
-const NUMBER: usize = 1;
+pub const NUMBER: usize = 1;
 
-const LABEL: usize = 2;
+pub const LABEL: usize = 2;
 
-const BODY: usize = 10;
-
-// A stamp's parts.
-const PARTS: usize = 8;
+pub const BODY: usize = 10;
 
 // A part that a stamp does not have is zero.
 pub fn part_at(s: &[u64], k: u64) -> u64
@@ -56,7 +54,7 @@ pub fn is_known(row: &[u64], s: &[u64]) -> bool
 
 pub fn is_applied(row: &[u64], s: &[u64]) -> bool
     requires { ⌜ length (now row) ≡ rowLong ⌝ }
-    requires { ⌜ length (now s) ≡ 8 ⌝ }
+    requires { ⌜ length (now s) ≡ stampLong ⌝ }
     ensures { λ r. ⌜ r ≡ isApplied (now (s .entry)) (recordAt (now (row .entry))) ⌝ }
 {
     if !is_known(row, s) {
@@ -67,7 +65,7 @@ pub fn is_applied(row: &[u64], s: &[u64]) -> bool
 
 pub fn is_waiting(row: &[u64], s: &[u64]) -> bool
     requires { ⌜ length (now row) ≡ rowLong ⌝ }
-    requires { ⌜ length (now s) ≡ 8 ⌝ }
+    requires { ⌜ length (now s) ≡ stampLong ⌝ }
     ensures { λ r. ⌜ r ≡ isWaiting (now (s .entry)) (recordAt (now (row .entry))) ⌝ }
 {
     if !is_known(row, s) {
@@ -79,7 +77,7 @@ pub fn is_waiting(row: &[u64], s: &[u64]) -> bool
 // Whether the record is applied under s and known everywhere: `low` is the table's lowest stamp.
 pub fn goes(row: &[u64], s: &[u64], low: &[u64]) -> bool
     requires { ⌜ length (now row) ≡ rowLong ⌝ }
-    requires { ⌜ length (now s) ≡ 8 ⌝ }
+    requires { ⌜ length (now s) ≡ stampLong ⌝ }
     ensures { λ r. ⌜ r ≡ goesBy (now (s .entry)) (now (low .entry)) (recordAt (now (row .entry))) ⌝ }
 {
     if !is_applied(row, s) {
@@ -108,7 +106,7 @@ pub fn row_fits(row: &[u64], n: usize) -> bool
 // What soundness asks of a record alone. Once it fits, the value stamp covers its stamp exactly when the record is applied under it.
 pub fn row_sound(row: &[u64], n: usize, known: &[u64], low: &[u64], value: &[u64]) -> bool
     requires { ⌜ length (now row) ≡ rowLong ⌝ }
-    requires { ⌜ (length (now known) ≡ 8) × (length (now value) ≡ 8) ⌝ }
+    requires { ⌜ (length (now known) ≡ stampLong) × (length (now value) ≡ stampLong) ⌝ }
     ensures { λ r. ⌜ r ≡ rowSound n (now (known .entry)) (now (low .entry)) (now (value .entry)) (recordAt (now (row .entry))) ⌝ }
 {
     if !is_known(row, known) {
@@ -146,9 +144,9 @@ fn meet_into(a: &mut [u64], b: &[u64])
 
 // A stamp met with each of the table's n rows, written over it.
 pub fn lowest(table: &[u64], n: usize, low: &mut [u64])
-    requires { ⌜ n * 8 ≤ length (now table) ⌝ }
-    requires { ⌜ length (now low) ≡ 8 ⌝ }
-    ensures { λ _. ⌜ (now (low .exit) ≡ lowestFrom (now (low .entry)) (rows 8 n (now (table .entry)))) × (length (now (low .exit)) ≡ 8) ⌝ }
+    requires { ⌜ n * stampLong ≤ length (now table) ⌝ }
+    requires { ⌜ length (now low) ≡ stampLong ⌝ }
+    ensures { λ _. ⌜ (now (low .exit) ≡ lowestFrom (now (low .entry)) (rows stampLong n (now (table .entry)))) × (length (now (low .exit)) ≡ stampLong) ⌝ }
 {
     let mut i = 0;
     let mut at = 0;
@@ -170,7 +168,7 @@ pub fn rows_sound(
     value: &[u64],
 ) -> bool
     requires { ⌜ count * rowLong ≤ length (now r) ⌝ }
-    requires { ⌜ (length (now known) ≡ 8) × (length (now value) ≡ 8) ⌝ }
+    requires { ⌜ (length (now known) ≡ stampLong) × (length (now value) ≡ stampLong) ⌝ }
     ensures { λ b. ⌜ b ≡ every (rowSound n (now (known .entry)) (now (low .entry)) (now (value .entry))) (recordsAt count (now (r .entry))) ⌝ }
 {
     let mut i = 0;
@@ -223,10 +221,10 @@ pub fn rising_rows(r: &[u64], count: usize) -> bool
 fn raise(reached: u64, q: u64) -> u64
     ensures { λ r. ⌜ r ≡ raised reached q ⌝ }
 {
-    if q == 0 {
+    if q <= reached {
         return reached;
     }
-    if q - 1 != reached {
+    if 1 < q - reached {
         return reached;
     }
     q
@@ -278,7 +276,7 @@ fn first_at_most(a: &[u64], b: &[u64], n: usize) -> bool
 pub fn all_held(r: &[u64], count: usize, n: usize, known: &[u64], low: &[u64]) -> bool
     requires { ⌜ count * rowLong ≤ length (now r) ⌝ }
     requires { ⌜ T (rising place (recordsAt count (now r))) ⌝ }
-    requires { ⌜ (length (now known) ≡ 8) × (length (now low) ≡ 8) × (n ≤ 8) ⌝ }
+    requires { ⌜ (length (now known) ≡ stampLong) × (length (now low) ≡ stampLong) × (n ≤ stampLong) ⌝ }
     ensures { λ b. ⌜ b ≡ holdsAll n (now (low .entry)) (now (known .entry)) (recordsAt count (now (r .entry))) ⌝ }
 {
     let p = parts_at(low, 0);
@@ -296,7 +294,7 @@ fn one_if(b: bool) -> usize
 // How many records wait.
 pub fn count_waiting(r: &[u64], count: usize, known: &[u64]) -> usize
     requires { ⌜ count * rowLong ≤ length (now r) ⌝ }
-    requires { ⌜ length (now known) ≡ 8 ⌝ }
+    requires { ⌜ length (now known) ≡ stampLong ⌝ }
     ensures { λ n. ⌜ (n ≡ length (waitingIn (now (known .entry)) (recordsAt count (now (r .entry))))) × (n ≤ count) ⌝ }
 {
     let mut n = 0;

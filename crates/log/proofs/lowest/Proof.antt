@@ -4,6 +4,7 @@ use native.Mathlib.Omega.{arith}
 use mathlib.Core.Path.{_≡_, refl, sym, _∙_}
 use lib.ListN.{length}
 use Rattle.lists.specs.Rows.{rows}
+use Rattle.log.specs.Region.{stampLong}
 use Rattle.log.specs.Lowest.{lowestFrom}
 use Rattle.log.proofs.Turn.{lowestRest, lowest-start, lowest-more, lowest-end}
 use borrow.Author.Needs.{needs}
@@ -11,7 +12,7 @@ use Rattle.log.proofs.lowest.Statement.{statement}
 use Rattle.log.proofs.lowest.Tie as tie
 
 abbrev Inv-loop : tie.InvT-loop
-Inv-loop table n low₀ i₀ at₀ low i at = (i ≤ n) × (at ≡ i * 8) × (length low ≡ 8) × (lowestFrom low₀ (rows 8 n table) ≡ lowestRest low table n i at)
+Inv-loop table n low₀ i₀ at₀ low i at = (i ≤ n) × (at ≡ i * stampLong) × (length low ≡ stampLong) × (lowestFrom low₀ (rows stampLong n table) ≡ lowestRest low table n i at)
 
 abbrev μ-loop : tie.MeasureT-loop
 μ-loop table n low₀ i₀ at₀ low i at = n - i
