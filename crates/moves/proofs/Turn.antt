@@ -7,7 +7,7 @@ use mathlib.Core.Bool.{Bool, true, false, not, _&&_, cond}
 use mathlib.Core.List.{List, []}
 use lib.Dec.{T}
 use lib.ListN.{length, getD, set, take, drop, length-take, length-drop, drop-of-length-le}
-use Rattle.lists.specs.Facts.{bit}
+use Rattle.lists.specs.Facts.{_∈_, bit}
 use Rattle.lists.specs.Order.{insert}
 use Rattle.lists.specs.Part.{mid, patch}
 use Rattle.stamp.specs.Laws.{merge-comm, length-merge, length-replace}
@@ -20,22 +20,25 @@ use Rattle.tally.specs.StandingLaws.{afresh-at, standing-few}
 use Rattle.tally.specs.Tap.{fields, tapOf}
 use Rattle.tally.specs.declared.Standing.{Standing}
 use Rattle.tally.specs.declared.Tap.{Tap}
-use Rattle.ledger.specs.Limits.{bookRoom}
+use Rattle.ledger.specs.Limits.{logRoom, bookRoom}
 use Rattle.ledger.specs.Record.{Record, stampOf, isApplied}
-use Rattle.ledger.specs.Log.{newlyApplied}
-use Rattle.log.specs.Region.{recordAt}
+use Rattle.ledger.specs.Log.{newlyApplied, remaining}
+use Rattle.log.specs.Region.{recordAt, recordsAt, logWords}
+use Rattle.log.specs.Lowest.{lowestFrom}
+use Rattle.log_moves.specs.Merge.{stayers, dropped}
+use Rattle.log_moves.specs.WordLaws.{stayers-remaining, dropped-words}
 use Rattle.counted.specs.Region.{tapsAt, tapWords, insertedAt}
 use Rattle.counted.specs.RegionLaws.{length-insert, words-inserted}
 use Rattle.prompts.specs.Region.{standingsAt, standingWords, notedAt}
 use Rattle.prompts.specs.RegionLaws.{prompt-word, length-noted}
-use Rattle.book.specs.Book.{Book}
-use Rattle.layout.specs.Held.{Held, put-value, put-counted, put-prompts}
-use Rattle.layout.specs.With.{withValue, withCounted, withPrompts}
+use Rattle.book.specs.Book.{Book, row, known}
+use Rattle.layout.specs.Held.{Held, put-value, put-log, put-counted, put-prompts}
+use Rattle.layout.specs.With.{withValue, withLog, withCounted, withPrompts}
 use Rattle.layout.specs.Words.{pieces, bookOf, wordsOf}
 use Rattle.layout.specs.WordsLaws.{Shape, piece-back}
-use Rattle.moves.specs.Moves.{countOne, added, isNew, applyOne, applyAll}
+use Rattle.moves.specs.Moves.{countOne, added, isNew, applyOne, applyAll, shed, settled}
 use Rattle.moves.specs.Places.{noRecord, held-is, book-is, log-count, counted-count}
-use Rattle.moves.specs.Ready.{Countable, Insertable, Applicable, Ready, appliedFrom, from-shape, from-log, from-none, from-all, from-next, newly-next, from-applicable}
+use Rattle.moves.specs.Ready.{Countable, Insertable, Applicable, Ready, getD-in, appliedFrom, from-me, from-known, from-shape, from-log, from-none, from-all, from-next, newly-next, from-applicable}
 
 module _ (ws : List ℕ) (h : Held ws) where
   pub value-merged : (s : Stamp) → patch 68 8 ws (merge (mid 68 8 ws) s) ≡ wordsOf (withValue (merge s ((bookOf ws) .value)) (bookOf ws))
@@ -118,6 +121,34 @@ stamp-eight row e l =
     let eight : length (take 8 (drop 2 row)) ≡ 8 = simp (length-take, length-drop) (omega arith) in
     length-replace (take 8 (drop 2 row)) (getD row 0 0) (getD row 1 0) (omega arith) ∙ eight
 
+-- the log closed up by the lowest stamp of the table
+module _ (ws : List ℕ) (h : Held ws) (l : (bookOf ws) .me < (bookOf ws) .screens) where
+  log-words : mid 76 2816 ws ≡ logWords logRoom ((bookOf ws) .log)
+  unfolding pieces
+  log-words = ap (mid 76 2816) (sym (h .words)) ∙ piece-back (bookOf ws) (h .shape) 3 (omega arith)
+
+  own-row : known (bookOf ws) ∈ (bookOf ws) .table
+  unfolding known row
+  own-row = getD-in ((bookOf ws) .table) ((bookOf ws) .me) [] (omega (arith, h .shape .rows-long))
+
+  read-log : recordsAt (getD ws 2 0) (mid 76 2816 ws) ≡ (bookOf ws) .log
+  unfolding bookOf
+  read-log = refl
+
+  pub log-dropped :
+      (s low : Stamp) (n : ℕ) → s ≡ known (bookOf ws) → low ≡ lowestFrom s ((bookOf ws) .table) → n ≡ length (stayers s low (recordsAt (getD ws 2 0) (mid 76 2816 ws)))
+      → set (patch 76 2816 ws (dropped s low (getD ws 2 0) (mid 76 2816 ws))) 2 n ≡ wordsOf (shed (bookOf ws))
+  log-dropped s low n e f g =
+      let b = bookOf ws in
+      let rs = remaining (known b) (b .table) (b .log) in
+      let same : stayers s low (b .log) ≡ rs = rw (f, e) (stayers-remaining (known b) (b .table) (b .log) own-row) in
+      let region : dropped s low (getD ws 2 0) (mid 76 2816 ws) ≡ logWords logRoom rs =
+          ap₂ (λ (k : ℕ) (r : List ℕ). dropped s low k r) (log-count ws h) log-words ∙ dropped-words logRoom (b .log) (h .shape .log-eight) s low (h .shape .log-few) ∙ ap (logWords logRoom) same in
+      let number : n ≡ length rs = g ∙ ap (λ (r : List Record). length (stayers s low r)) read-log ∙ ap length same in
+      ap₂ (λ (x : List ℕ) (k : ℕ). set (patch 76 2816 ws x) 2 k) region number
+      ∙ ap (λ (r : List ℕ). set (patch 76 2816 r (logWords logRoom rs)) 2 (length rs)) (sym (h .words))
+      ∙ put-log b (h .shape) rs
+
 -- a record is added: its stamp is merged, then its tap is counted
 module _ (ws : List ℕ) (h : Held ws) (r : Record) (o : length (stampOf r) ≡ 8) where
   pub merged-shape : Shape (withValue (merge (stampOf r) ((bookOf ws) .value)) (bookOf ws))
@@ -195,3 +226,28 @@ module _ (before now : Stamp) (ws : List ℕ) (h : Held ws) (y : Ready before no
   log-end i z =
       let e : i ≡ 0 = omega arith in
       (ap (λ (k : ℕ). wordsOf (appliedFrom before now (bookOf ws) k)) e ∙ ap wordsOf (from-all before now (bookOf ws) y), ap (λ (k : ℕ). length (newlyApplied before now (drop k ((bookOf ws) .log)))) e)
+
+-- the whole log applied, then closed up
+module _ (before : Stamp) (ws : List ℕ) (y : Ready before (known (bookOf ws)) (bookOf ws)) (vs : List ℕ) (e : vs ≡ wordsOf (applyAll before (known (bookOf ws)) ((bookOf ws) .log) (bookOf ws))) where
+  words-applied : vs ≡ wordsOf (appliedFrom before (known (bookOf ws)) (bookOf ws) 0)
+  words-applied = e ∙ ap wordsOf (sym (from-all before (known (bookOf ws)) (bookOf ws) y))
+
+  pub applied-held : Held vs
+  applied-held = held-is vs (appliedFrom before (known (bookOf ws)) (bookOf ws) 0) (from-shape before (known (bookOf ws)) (bookOf ws) y 0) words-applied
+
+  applied-book : bookOf vs ≡ appliedFrom before (known (bookOf ws)) (bookOf ws) 0
+  applied-book = book-is vs (appliedFrom before (known (bookOf ws)) (bookOf ws) 0) (from-shape before (known (bookOf ws)) (bookOf ws) y 0) words-applied
+
+  pub applied-me : (bookOf ws) .me < (bookOf ws) .screens → (bookOf vs) .me < (bookOf vs) .screens
+  applied-me l =
+      let f = from-me before (known (bookOf ws)) (bookOf ws) y 0 in
+      omega (arith, ap (λ (b : Book). b .me) applied-book, ap (λ (b : Book). b .screens) applied-book, f .0, f .1)
+
+  pub applied-known : known (bookOf ws) ≡ known (bookOf vs)
+  applied-known = sym (ap known applied-book ∙ from-known before (known (bookOf ws)) (bookOf ws) y 0)
+
+  pub shed-settled : wordsOf (shed (bookOf vs)) ≡ wordsOf (settled before (bookOf ws))
+  unfolding settled appliedFrom known row
+  shed-settled =
+      ap (λ (b : Book). wordsOf (shed b)) applied-book
+      ∙ ap (λ (b : Book). wordsOf (withLog (remaining (known (bookOf ws)) ((bookOf ws) .table) ((bookOf ws) .log)) b)) (from-all before (known (bookOf ws)) (bookOf ws) y)

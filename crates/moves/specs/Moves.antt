@@ -33,6 +33,10 @@ abbrev pub applyAll : Stamp → Stamp → List Record → Book → Book
 applyAll before now [] b = b
 applyAll before now (r ∷ rs) b = applyOne before now r (applyAll before now rs b)
 
+-- what may go dropped
+abbrev pub shed : Book → Book
+shed b = withLog (remaining (known b) (b .table) (b .log)) b
+
 -- the log's newly applied records applied, then what may go dropped
 unfoldable pub settled : Stamp → Book → Book
 settled before b = withLog (remaining (known b) (b .table) (b .log)) (applyAll before (known b) (b .log) b)

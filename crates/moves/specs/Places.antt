@@ -6,7 +6,7 @@ use mathlib.Core.Path.{_≡_, sym, ap, subst, _∙_}
 use mathlib.Core.List.{List, []}
 use lib.ListN.{length, getD, take, drop, List·getD-map}
 use lib.Seq.{getD-take, getD-drop}
-use Rattle.lists.specs.Part.{mid, mid-mid}
+use Rattle.lists.specs.Part.{mid, length-mid, mid-mid}
 use Rattle.lists.specs.RowLaws.{rows-at}
 use Rattle.lists.specs.Rows.{rows}
 use Rattle.stamp.specs.Limits.{parts}
@@ -94,6 +94,10 @@ module _ (ws : List ℕ) (h : Held ws) where
     pub known-read : listOf (partsAt (4 + getD ws 0 0 * 8) ws) ≡ known (bookOf ws)
     unfolding bookOf known mid
     known-read = list-parts (4 + getD ws 0 0 * 8) ws (omega (arith, held-long, me-small)) ∙ sym (row-words (getD ws 0 0) l)
+
+    pub known-long : length (known (bookOf ws)) ≡ 8
+    unfolding bookOf known
+    known-long = ap length (row-words (getD ws 0 0) l) ∙ length-mid (4 + getD ws 0 0 * 8) 8 ws (omega (arith, held-long, me-small))
 
   -- the record of a log row
   pub record-words : (i : ℕ) → i < length ((bookOf ws) .log) → getD ((bookOf ws) .log) i noRecord ≡ recordAt (mid (76 + i * rowLong) rowLong ws)

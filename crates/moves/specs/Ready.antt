@@ -26,7 +26,7 @@ use Rattle.ledger.specs.Log.{newlyApplied, mergeAll}
 use Rattle.ledger.specs.LogLaws.{newly-mem}
 use Rattle.ledger.specs.Record.{Record, stampOf, recordFits, isApplied}
 use Rattle.ledger.specs.RecordLaws.{Obeys, obeys}
-use Rattle.book.specs.Book.{Book}
+use Rattle.book.specs.Book.{Book, row, known}
 use Rattle.book.specs.Settle.{taps-mem}
 use Rattle.book.specs.Step.{tapsOf}
 use Rattle.layout.specs.With.{withPrompts}
@@ -106,7 +106,7 @@ module _ (before now : Stamp) (cs : List Tap) where
       go false t = absurd t
 
 -- an element of a list, and one of its rest
-getD-in : {A : Type 0} (xs : List A) (i : ℕ) (d : A) → i < length xs → getD xs i d ∈ xs
+pub getD-in : {A : Type 0} (xs : List A) (i : ℕ) (d : A) → i < length xs → getD xs i d ∈ xs
 getD-in [] i d h = absurd (omega arith)
 getD-in (x ∷ xs) zero d h = here
 getD-in (x ∷ xs) (suc i) d h = there (getD-in xs i d (omega arith))
@@ -162,6 +162,14 @@ module _ (before now : Stamp) (b : Book) (y : Ready before now b) where
   pub from-log : (i : ℕ) → (appliedFrom before now b i) .log ≡ b .log
   unfolding appliedFrom
   from-log i = refl
+
+  pub from-me : (i : ℕ) → ((appliedFrom before now b i) .me ≡ b .me) × ((appliedFrom before now b i) .screens ≡ b .screens)
+  unfolding appliedFrom
+  from-me i = (refl, refl)
+
+  pub from-known : (i : ℕ) → known (appliedFrom before now b i) ≡ known b
+  unfolding appliedFrom known row
+  from-known i = refl
 
   -- with none of the log applied it is the book, with all of it the book put in order but for the drop
   pub from-none : appliedFrom before now b (length (b .log)) ≡ b

@@ -1,7 +1,24 @@
 // The book put in order, in place: what is newly applied is merged into the value stamp and counted, then what may go is dropped.
 use counted::has;
 use counted::insert_word;
+use layout::BOOK;
+use layout::COUNTED;
+use layout::COUNTED_TAPS;
+use layout::LOG;
+use layout::LOGGED;
+use layout::PROMPTS;
+use layout::SCREEN;
+use layout::SCREENS;
+use layout::TABLE;
+use layout::VALUE;
+use log::BODY;
+use log::LABEL;
+use log::NUMBER;
+use log::ORIGIN;
+use log::ROW;
 use log::is_applied;
+use log::lowest;
+use log_moves::drop_rows;
 use prompts::note;
 use stamp::PARTS;
 use stamp::list_of;
@@ -16,53 +33,24 @@ ghost use lib.ListN.{length, getD};
 ghost use Rattle.lists.specs.Facts.{bit};
 ghost use Rattle.lists.specs.Order.{rising, insert};
 ghost use Rattle.lists.specs.Part.{mid, patch};
+ghost use Rattle.lists.specs.Rows.{rows};
 ghost use Rattle.stamp.specs.Stamp.{merge};
 ghost use Rattle.tally.specs.Standing.{CountsFit, among, blank};
 ghost use Rattle.tally.specs.Tap.{fields, tapOf};
-ghost use Rattle.ledger.specs.Log.{newlyApplied};
+ghost use Rattle.ledger.specs.Log.{newlyApplied, remaining};
 ghost use Rattle.ledger.specs.Record.{stampOf};
-ghost use Rattle.log.specs.Region.{rowLong, recordAt};
+ghost use Rattle.log.specs.Region.{rowLong, stampLong, recordAt, recordsAt};
+ghost use Rattle.log.specs.Lowest.{lowestFrom};
+ghost use Rattle.log_moves.specs.Merge.{stayers, dropped};
 ghost use Rattle.counted.specs.Region.{tapsAt, insertedAt};
 ghost use Rattle.prompts.specs.Region.{promptWords, standingsAt, standingWords, notedAt};
 ghost use Rattle.book.specs.Book.{known};
 ghost use Rattle.layout.specs.Held.{Held};
-ghost use Rattle.layout.specs.With.{withValue, withCounted, withPrompts};
+ghost use Rattle.layout.specs.With.{withValue, withLog, withCounted, withPrompts};
 ghost use Rattle.layout.specs.Words.{bookOf, wordsOf};
-ghost use Rattle.moves.specs.Moves.{countOne, added, isNew, applyOne, applyAll};
+ghost use Rattle.moves.specs.Moves.{countOne, added, isNew, applyOne, applyAll, shed, settled};
 ghost use Rattle.moves.specs.Places.{noRecord};
 ghost use Rattle.moves.specs.Ready.{Countable, Insertable, Applicable, Ready};
-
-// Where the pieces of a book stand: i, N, the log's and the counted taps' numbers, then the regions, each up to the next.
-const SCREEN: usize = 0;
-
-const SCREENS: usize = 1;
-
-const LOGGED: usize = 2;
-
-const COUNTED_TAPS: usize = 3;
-
-const TABLE: usize = 4;
-
-const VALUE: usize = 68;
-
-const LOG: usize = 76;
-
-const COUNTED: usize = 2892;
-
-const PROMPTS: usize = 3916;
-
-const BOOK: usize = 4108;
-
-// A log row's words, and where they stand in it; the label is from LABEL to BODY.
-const ROW: usize = 11;
-
-const ORIGIN: usize = 0;
-
-const NUMBER: usize = 1;
-
-const LABEL: usize = 2;
-
-const BODY: usize = 10;
 
 // The known stamp.
 pub fn known_of(b: &[u64]) -> [u64; PARTS]
@@ -111,7 +99,7 @@ fn merge_at(b: &mut [u64], a: usize, e: usize, s: &[u64])
 // A stamp merged into the value stamp.
 pub fn merge_value(b: &mut [u64], s: &[u64])
     requires { ⌜ Held (now b) ⌝ }
-    requires { ⌜ length (now s) ≡ 8 ⌝ }
+    requires { ⌜ length (now s) ≡ stampLong ⌝ }
     ensures { λ _. ⌜ now (b .exit) ≡ wordsOf (withValue (merge (now (s .entry)) ((bookOf (now (b .entry))) .value)) (bookOf (now (b .entry)))) ⌝ }
 {
     merge_at(b, VALUE, LOG, s);
@@ -178,7 +166,7 @@ pub fn count_tap(b: &mut [u64], w: u64)
 
 // The stamp of a row's record.
 pub fn row_stamp(row: &[u64]) -> [u64; PARTS]
-    requires { ⌜ (length (now row) ≡ rowLong) × (recordAt (now row) .origin < 8) ⌝ }
+    requires { ⌜ (length (now row) ≡ rowLong) × (recordAt (now row) .origin < stampLong) ⌝ }
     ensures { λ r. ⌜ r ≡ stampOf (recordAt (now (row .entry))) ⌝ }
 {
     let mut s = list_of(parts_at(row, LABEL));
@@ -189,7 +177,7 @@ pub fn row_stamp(row: &[u64]) -> [u64; PARTS]
 // A row's record merged into the value stamp, and its tap counted.
 fn apply_record(b: &mut [u64], row: &[u64])
     requires { ⌜ Held (now b) ⌝ }
-    requires { ⌜ (length (now row) ≡ rowLong) × (recordAt (now row) .origin < 8) ⌝ }
+    requires { ⌜ (length (now row) ≡ rowLong) × (recordAt (now row) .origin < stampLong) ⌝ }
     requires { ⌜ Countable (recordAt (now row) .body) (bookOf (now b)) ⌝ }
     ensures { λ _. ⌜ now (b .exit) ≡ wordsOf (added (recordAt (now (row .entry))) (bookOf (now (b .entry)))) ⌝ }
 {
@@ -202,7 +190,7 @@ fn apply_record(b: &mut [u64], row: &[u64])
 pub fn apply_row(b: &mut [u64], i: usize, before: &[u64], s: &[u64]) -> bool
     requires { ⌜ Held (now b) ⌝ }
     requires { ⌜ i < length ((bookOf (now b)) .log) ⌝ }
-    requires { ⌜ (length (now before) ≡ 8) × (length (now s) ≡ 8) ⌝ }
+    requires { ⌜ (length (now before) ≡ stampLong) × (length (now s) ≡ stampLong) ⌝ }
     requires { ⌜ Applicable (now before) (now s) (getD ((bookOf (now b)) .log) i noRecord) (bookOf (now b)) ⌝ }
     ensures { λ _. ⌜ now (b .exit) ≡ wordsOf (applyOne (now (before .entry)) (now (s .entry)) (getD ((bookOf (now (b .entry))) .log) i noRecord) (bookOf (now (b .entry)))) ⌝ }
     ensures { λ r. ⌜ r ≡ isNew (now (before .entry)) (now (s .entry)) (getD ((bookOf (now (b .entry))) .log) i noRecord) ⌝ }
@@ -227,7 +215,7 @@ fn one_if(b: bool) -> u64
 // Applies what of the log is applied under s and was not before, from the last record to the first. Gives how many.
 pub fn apply_log(b: &mut [u64], before: &[u64], s: &[u64]) -> u64
     requires { ⌜ Held (now b) ⌝ }
-    requires { ⌜ (length (now before) ≡ 8) × (length (now s) ≡ 8) ⌝ }
+    requires { ⌜ (length (now before) ≡ stampLong) × (length (now s) ≡ stampLong) ⌝ }
     requires { ⌜ Ready (now before) (now s) (bookOf (now b)) ⌝ }
     ensures { λ _. ⌜ now (b .exit) ≡ wordsOf (applyAll (now (before .entry)) (now (s .entry)) ((bookOf (now (b .entry))) .log) (bookOf (now (b .entry)))) ⌝ }
     ensures { λ r. ⌜ r ≡ length (newlyApplied (now (before .entry)) (now (s .entry)) ((bookOf (now (b .entry))) .log)) ⌝ }
@@ -238,5 +226,63 @@ pub fn apply_log(b: &mut [u64], before: &[u64], s: &[u64]) -> u64
         i -= 1;
         n += one_if(apply_row(b, i, before, s));
     }
+    n
+}
+
+// A stamp met with each of the n rows of the words from a up to e, written over it.
+fn lowest_at(b: &[u64], a: usize, e: usize, n: usize, low: &mut [u64])
+    requires { ⌜ (a ≤ e) × (e ≤ length (now b)) × (n * stampLong ≤ e - a) ⌝ }
+    requires { ⌜ length (now low) ≡ stampLong ⌝ }
+    ensures { λ _. ⌜ now (low .exit) ≡ lowestFrom (now (low .entry)) (rows stampLong n (mid a (e - a) (now (b .entry)))) ⌝ }
+{
+    lowest(&b[a..e], n, low);
+}
+
+// A stamp met with each row of the table.
+pub fn low_of(b: &[u64], s: &[u64]) -> [u64; PARTS]
+    requires { ⌜ Held (now b) ⌝ }
+    requires { ⌜ length (now s) ≡ stampLong ⌝ }
+    ensures { λ r. ⌜ r ≡ lowestFrom (now (s .entry)) ((bookOf (now (b .entry))) .table) ⌝ }
+{
+    let mut low = list_of(parts_at(s, 0));
+    lowest_at(b, TABLE, VALUE, b[SCREENS] as usize, &mut low);
+    low
+}
+
+// Of the first rows of the words from a up to e, those that may go dropped and the rest closed up. Gives how many stay.
+fn drop_at(b: &mut [u64], a: usize, e: usize, count: usize, s: &[u64], low: &[u64]) -> usize
+    requires { ⌜ (a ≤ e) × (e ≤ length (now b)) × (count * rowLong ≤ e - a) ⌝ }
+    requires { ⌜ length (now s) ≡ stampLong ⌝ }
+    ensures { λ _. ⌜ now (b .exit) ≡ patch a (e - a) (now (b .entry)) (dropped (now (s .entry)) (now (low .entry)) count (mid a (e - a) (now (b .entry)))) ⌝ }
+    ensures { λ n. ⌜ n ≡ length (stayers (now (s .entry)) (now (low .entry)) (recordsAt count (mid a (e - a) (now (b .entry))))) ⌝ }
+{
+    drop_rows(&mut b[a..e], count, s, low)
+}
+
+// Drops from the log what is applied under the known stamp s and known everywhere.
+pub fn drop_log(b: &mut [u64], s: &[u64])
+    requires { ⌜ Held (now b) ⌝ }
+    requires { ⌜ (bookOf (now b)) .me < (bookOf (now b)) .screens ⌝ }
+    requires { ⌜ now s ≡ known (bookOf (now b)) ⌝ }
+    ensures { λ _. ⌜ now (b .exit) ≡ wordsOf (shed (bookOf (now (b .entry)))) ⌝ }
+{
+    let low = low_of(b, s);
+    let count = b[LOGGED] as usize;
+    let n = drop_at(b, LOG, COUNTED, count, s, &low);
+    b[LOGGED] = n as u64;
+}
+
+// Puts the book in order, whose known stamp was `before` and is now its own row. Gives how many records became applied.
+pub fn settle_book(b: &mut [u64], before: &[u64]) -> u64
+    requires { ⌜ Held (now b) ⌝ }
+    requires { ⌜ (bookOf (now b)) .me < (bookOf (now b)) .screens ⌝ }
+    requires { ⌜ length (now before) ≡ stampLong ⌝ }
+    requires { ⌜ Ready (now before) (known (bookOf (now b))) (bookOf (now b)) ⌝ }
+    ensures { λ _. ⌜ now (b .exit) ≡ wordsOf (settled (now (before .entry)) (bookOf (now (b .entry)))) ⌝ }
+    ensures { λ r. ⌜ r ≡ length (newlyApplied (now (before .entry)) (known (bookOf (now (b .entry)))) ((bookOf (now (b .entry))) .log)) ⌝ }
+{
+    let s = known_of(b);
+    let n = apply_log(b, before, &s);
+    drop_log(b, &s);
     n
 }
