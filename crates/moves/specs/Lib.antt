@@ -1,2 +1,4 @@
 pub mod Moves
 pub mod MovesLaws
+pub mod Places
+pub mod Ready

@@ -22,13 +22,20 @@ unfoldable pub isNew : Stamp → Stamp → Record → Bool
 isNew before now r = isApplied now r && not (isApplied before r)
 
 -- a newly applied record adds to the value stamp and the counted taps that it finds
+abbrev pub added : Record → Book → Book
+added r b = countOne (tapOf (r .body)) (withValue (merge (stampOf r) (b .value)) b)
+
 unfoldable pub applyOne : Stamp → Stamp → Record → Book → Book
-applyOne before now r b = cond (isNew before now r) (countOne (tapOf (r .body)) (withValue (merge (stampOf r) (b .value)) b)) b
+applyOne before now r b = cond (isNew before now r) (added r b) b
 
 -- every record of a list, the last one first
 abbrev pub applyAll : Stamp → Stamp → List Record → Book → Book
 applyAll before now [] b = b
 applyAll before now (r ∷ rs) b = applyOne before now r (applyAll before now rs b)
+
+-- what may go dropped
+abbrev pub shed : Book → Book
+shed b = withLog (remaining (known b) (b .table) (b .log)) b
 
 -- the log's newly applied records applied, then what may go dropped
 unfoldable pub settled : Stamp → Book → Book

@@ -20,7 +20,7 @@ use Rattle.prompts.specs.RegionLaws.{afresh-insert, prompt-word}
 use Rattle.meaning.specs.Book.{Book, known, row}
 use Rattle.meaning.specs.Step.{nowApplied, tapsOf, nowCounted, settle}
 use Rattle.layout.specs.With.{withTable, withValue, withLog, withCounted, withPrompts}
-use Rattle.moves.specs.Moves.{countOne, isNew, applyOne, applyAll, settled}
+use Rattle.moves.specs.Moves.{countOne, added, isNew, applyOne, applyAll, settled}
 
 -- the book with its value stamp merged with those of some records, and their taps counted
 abbrev pub absorbed : List Record → Book → Book
@@ -54,7 +54,7 @@ module _ (b : Book) (order : T (rising fields (b .counted))) (follow : b .prompt
     where
       go :
           (c : Bool)
-          → cond c (countOne (tapOf (r .body)) (withValue (merge (stampOf r) (mergeAll rs (b .value))) (absorbed rs b))) (absorbed rs b) ≡ absorbed (cond c (r ∷ rs) rs) b
+          → cond c (added r (absorbed rs b)) (absorbed rs b) ≡ absorbed (cond c (r ∷ rs) rs) b
       go true = count-one (withValue (merge (stampOf r) (mergeAll rs (b .value))) (absorbed rs b)) (count-put (tapsOf rs) (b .counted) .order order) refl (r .body)
       go false = refl
 

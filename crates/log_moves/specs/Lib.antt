@@ -1,0 +1,5 @@
+pub mod Merge
+pub mod OrderLaws
+pub mod MergeLaws
+pub mod RowLaws
+pub mod WordLaws
