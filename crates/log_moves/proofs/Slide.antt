@@ -38,7 +38,8 @@ none-after :
     → (z : Record) → z ∈ rs ++ (a ∷ []) → keyBefore (place x) (place z) ≡ false
 none-after x a rs o b z m =
     either (List·Memᴰ·append-cases rs m)
-    (λ n. is-false (keyBefore (place x) (place z)) (not-from (keyBefore (place x) (place z)) (λ t. subst T b (before-trans (place x) (place z) (place a) t (rising-across place rs (a ∷ []) o n here)))))
+    (λ n. is-false (keyBefore (place x) (place z))
+    (not-from (keyBefore (place x) (place z)) (λ t. subst T b (before-trans (place x) (place z) (place a) t (rising-across place rs (a ∷ []) o n here)))))
     (λ n. either (List·Memᴰ·cases-cons n) (λ e. ap (λ (w : Record). keyBefore (place x) (place w)) e ∙ b) (λ k. none-in k))
 
 -- the search, from the back: of the first i rows, those from the n-th on stand after the row

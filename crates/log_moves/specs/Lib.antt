@@ -3,3 +3,4 @@ pub mod OrderLaws
 pub mod MergeLaws
 pub mod RowLaws
 pub mod WordLaws
+pub mod Merging

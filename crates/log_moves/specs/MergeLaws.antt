@@ -40,7 +40,9 @@ module _ (new : List Record) (x : Record) (rs : List Record) (fresh : Fresh (new
   pub gathered-last : gathered (new ++ (x ∷ [])) rs ≡ gathered new (beforeOf x rs) ++ (x ∷ afterOf x rs)
   unfolding gathered beforeOf afterOf
   gathered-last =
-      insertAll-last place new x rs ∙ ap (insertAll place new) (insert-parts place x rs (fresh .sorted) (λ r m. fresh .apart x r last-in m)) ∙ insertAll-front place new (beforeOf x rs) (x ∷ afterOf x rs) behind
+      insertAll-last place new x rs
+      ∙ ap (insertAll place new) (insert-parts place x rs (fresh .sorted) (λ r m. fresh .apart x r last-in m))
+      ∙ insertAll-front place new (beforeOf x rs) (x ∷ afterOf x rs) behind
     where
       behind : (y : Record) → y ∈ new → (z : Record) → z ∈ x ∷ afterOf x rs → T (keyBefore (place y) (place z))
       behind y m z n =

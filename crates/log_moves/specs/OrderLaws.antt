@@ -69,7 +69,8 @@ module _ {A : Type 0} (key : A → List ℕ) where
 
       go :
           (c : Bool) → after y ≡ c → (d : Bool) → keyBefore (key y) (key x) ≡ d → insert key x ys ≡ keep (λ z. not (after z)) ys ++ (x ∷ keep after ys)
-          → cond c (x ∷ y ∷ ys) (cond d (y ∷ insert key x ys) (y ∷ ys)) ≡ cond (not c) (y ∷ keep (λ z. not (after z)) ys) (keep (λ z. not (after z)) ys) ++ (x ∷ cond c (y ∷ keep after ys) (keep after ys))
+          → cond c (x ∷ y ∷ ys) (cond d (y ∷ insert key x ys) (y ∷ ys))
+          ≡ cond (not c) (y ∷ keep (λ z. not (after z)) ys) (keep (λ z. not (after z)) ys) ++ (x ∷ cond c (y ∷ keep after ys) (keep after ys))
       go true e d e′ r =
           let w = parts-of after [] ys (λ z m. none-in m) (λ z m. is-true (after z) (before-trans (key x) (key y) (key z) (subst T (sym e) tt) (first-before y ys t m))) in
           sym (ap₂ (λ (b c : List A). b ++ (x ∷ y ∷ c)) (w .0) (w .1))

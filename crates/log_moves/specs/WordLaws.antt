@@ -5,7 +5,7 @@
 --     merged-words   on the log's region, with the rows behind it zero
 --     dropped-words  the same of the drop
 --     stayers-remaining  what stays is what remains
-use Prim.Native.Nat.{ℕ, zero, _+_, _-_, _*_, _≤_}
+use Prim.Native.Nat.{ℕ, _+_, _-_, _*_, _≤_}
 use native.Mathlib.Omega.{arith}
 use mathlib.Core.Path.{_≡_, refl, sym, ap, subst, _∙_}
 use mathlib.Core.Bool.{not}
@@ -32,7 +32,9 @@ unfolding flat
 rows-append [] ys = refl
 rows-append (x ∷ xs) ys = ap (λ (l : List ℕ). rowOf x ++ l) (rows-append xs ys) ∙ sym (append-assoc (rowOf x) (flat (map rowOf xs)) (flat (map rowOf ys)))
 
-module _ (others : List Record) (i gap : ℕ) (row old new : List ℕ) (n : ℕ) (long : length row ≡ rowLong) (fresh : Fresh (others ++ (recordAt row ∷ [])) (recordsAt i old)) (slid : Slid i gap row old new n) where
+module _
+    (others : List Record) (i gap : ℕ) (row old new : List ℕ) (n : ℕ)
+    (long : length row ≡ rowLong) (fresh : Fresh (others ++ (recordAt row ∷ [])) (recordsAt i old)) (slid : Slid i gap row old new n) where
   pub merged-turn : merged (others ++ (recordAt row ∷ [])) i gap old ≡ merged others n (gap - 1) new
   unfolding merged flat
   merged-turn =

@@ -11,7 +11,9 @@ use Rattle.log_moves.proofs.clear.Statement.{statement}
 use Rattle.log_moves.proofs.clear.Tie as tie
 
 abbrev Inv-loop : tie.InvT-loop
-Inv-loop r₀ from to j₀ r j = (from ≤ j) × (j ≤ to) × (length r ≡ length r₀) × (drop to r ≡ drop to r₀) × (take from r₀ ++ (replicate (to - from) 0 ++ drop to r₀) ≡ take j r ++ (replicate (to - j) 0 ++ drop to r₀))
+Inv-loop r₀ from to j₀ r j =
+    (from ≤ j) × (j ≤ to) × (length r ≡ length r₀) × (drop to r ≡ drop to r₀)
+    × (take from r₀ ++ (replicate (to - from) 0 ++ drop to r₀) ≡ take j r ++ (replicate (to - j) 0 ++ drop to r₀))
 
 abbrev μ-loop : tie.MeasureT-loop
 μ-loop r₀ from to j₀ r j = to - j

@@ -1,5 +1,4 @@
--- `log_moves::copy` meets its contract.
--- Assumes nothing.
+-- `log_moves::copy` meets its contract. The invariant: the source is what is copied up to i, and its rest. Assumes nothing.
 use mathlib.Core.Path.{_≡_, sym, _∙_}
 use mathlib.Core.List.{_++_, append-nil}
 use Prim.Native.Nat.{_≤_, _-_}

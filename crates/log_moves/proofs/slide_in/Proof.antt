@@ -10,7 +10,8 @@ returns c =
     let s = p .before .before .before .before in
     let t = s .before .before in
     let a = t .before .before .before .before in
-    slid (a .args .i) (a .args .gap) (t .staying .result) (a .args .row .now) (a .args .r .now) _ _ (a .pre .0 .0) (a .pre .0 .1) (a .pre .0 .2) (t .staying .ensures) (s .shift-up .ensures) (p .put-row .ensures)
+    slid (a .args .i) (a .args .gap) (t .staying .result) (a .args .row .now) (a .args .r .now) _ _
+    (a .pre .0 .0) (a .pre .0 .1) (a .pre .0 .2) (t .staying .ensures) (s .shift-up .ensures) (p .put-row .ensures)
 
 pub slide-in-spec : {M : Type 1} → statement M
 slide-in-spec =
