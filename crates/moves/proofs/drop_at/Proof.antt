@@ -1,3 +1,5 @@
+-- `moves::drop_at` meets its contract. Assumes nothing.
+use Rattle.lists.specs.Part.{mid, patch}
 use borrow.Author.Needs.{needs}
 use Rattle.moves.proofs.drop_at.Statement.{statement}
 use Rattle.moves.proofs.drop_at.Tie as tie
@@ -31,7 +33,10 @@ same-length c = search needs
 
 -- src/lib.rt:253:1
 returns : tie.Need-returns
-returns c = search needs
+unfolding mid patch
+returns c =
+    let d = c .before .before .drop-rows .ensures in
+    (rw (d .words), d .count)
 
 pub drop-at-spec : {M : Type 1} → statement M
 drop-at-spec =

@@ -1,3 +1,5 @@
+-- `moves::lowest_at` meets its contract. Assumes nothing.
+use Rattle.lists.specs.Part.{mid}
 use borrow.Author.Needs.{needs}
 use Rattle.moves.proofs.lowest_at.Statement.{statement}
 use Rattle.moves.proofs.lowest_at.Tie as tie
@@ -31,7 +33,8 @@ same-length c = search needs
 
 -- src/lib.rt:233:1
 returns : tie.Need-returns
-returns c = search needs
+unfolding mid
+returns c = c .before .before .lowest .ensures .0
 
 pub lowest-at-spec : {M : Type 1} → statement M
 lowest-at-spec =
