@@ -1,5 +1,5 @@
 -- What each change of the words comes to, of the book that they hold. Assumes nothing.
-use Prim.Native.Nat.{ℕ, _+_, _*_, _≤_, _<_}
+use Prim.Native.Nat.{ℕ, _+_, _≤_, _<_}
 use native.Mathlib.Nat.{le-refl}
 use native.Mathlib.Omega.{arith}
 use mathlib.Core.Path.{_≡_, refl, sym, ap, ap₂, subst, _∙_}
@@ -17,8 +17,7 @@ use Rattle.stamp.specs.Limits.{parts}
 use Rattle.stamp.specs.Parts.{partsAt, listOf}
 use Rattle.stamp.specs.PartsLaws.{list-parts}
 use Rattle.stamp.specs.Stamp.{Stamp, merge}
-use Rattle.tally.specs.Limits.{promptCount}
-use Rattle.tally.specs.Standing.{CountsFit, among, blank, afresh, standing}
+use Rattle.tally.specs.Standing.{CountsFit, among, blank, standing}
 use Rattle.tally.specs.StandingLaws.{afresh-at, standing-few}
 use Rattle.tally.specs.Tap.{fields, tapOf}
 use Rattle.tally.specs.declared.Standing.{Standing}
@@ -156,7 +155,7 @@ module _ (ws : List ℕ) (h : Held ws) (l : (bookOf ws) .me < (bookOf ws) .scree
       let rs = remaining (known b) (b .table) (b .log) in
       let same : stayers s low (b .log) ≡ rs = rw (f, e) (stayers-remaining (known b) (b .table) (b .log) own-row) in
       let region : dropped s low (getD ws 2 0) (mid 76 2816 ws) ≡ logWords logRoom rs =
-          ap₂ (λ (k : ℕ) (r : List ℕ). dropped s low k r) (log-count ws h) log-words ∙ dropped-words logRoom (b .log) (h .shape .log-eight) s low (h .shape .log-few) ∙ ap (logWords logRoom) same in
+      ap₂ (λ (k : ℕ) (r : List ℕ). dropped s low k r) (log-count ws h) log-words ∙ dropped-words logRoom (b .log) (h .shape .log-eight) s low (h .shape .log-few) ∙ ap (logWords logRoom) same in
       let number : n ≡ length rs = g ∙ ap (λ (r : List Record). length (stayers s low r)) read-log ∙ ap length same in
       ap₂ (λ (x : List ℕ) (k : ℕ). set (patch 76 2816 ws x) 2 k) region number
       ∙ ap (λ (r : List ℕ). set (patch 76 2816 r (logWords logRoom rs)) 2 (length rs)) (sym (h .words))
@@ -209,9 +208,10 @@ module _ (before now : Stamp) (ws : List ℕ) (h : Held ws) (y : Ready before no
 
   pub log-start : (ws ≡ wordsOf (appliedFrom before now (bookOf ws) (getD ws 2 0))) × (0 ≡ length (newlyApplied before now (drop (getD ws 2 0) ((bookOf ws) .log))))
   log-start =
-      let e = log-count ws h in
-      (sym (ap (λ (k : ℕ). wordsOf (appliedFrom before now (bookOf ws) k)) e ∙ ap wordsOf (from-none before now (bookOf ws) y) ∙ h .words),
-      rw (e, drop-of-length-le ((bookOf ws) .log) (le-refl (length ((bookOf ws) .log)))) (sym none-newly))
+      let e = log-count ws h in (
+        sym (ap (λ (k : ℕ). wordsOf (appliedFrom before now (bookOf ws) k)) e ∙ ap wordsOf (from-none before now (bookOf ws) y) ∙ h .words),
+        rw (e, drop-of-length-le ((bookOf ws) .log) (le-refl (length ((bookOf ws) .log)))) (sym none-newly),
+      )
 
   module _ (vs : List ℕ) (i : ℕ) (l : i < length ((bookOf ws) .log)) (e : vs ≡ wordsOf (appliedFrom before now (bookOf ws) (i + 1))) where
     there : bookOf vs ≡ appliedFrom before now (bookOf ws) (i + 1)
