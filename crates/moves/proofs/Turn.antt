@@ -1,5 +1,5 @@
 -- What each change of the words comes to, of the book that they hold. Assumes nothing.
-use Prim.Native.Nat.{ℕ, _+_, _*_, _≤_, _<_}
+use Prim.Native.Nat.{ℕ, _+_, _≤_, _<_}
 use native.Mathlib.Nat.{le-refl}
 use native.Mathlib.Omega.{arith}
 use mathlib.Core.Path.{_≡_, refl, sym, ap, ap₂, subst, _∙_}
@@ -7,15 +7,17 @@ use mathlib.Core.Bool.{Bool, true, false, not, _&&_, cond}
 use mathlib.Core.List.{List, []}
 use lib.Dec.{T}
 use lib.ListN.{length, getD, set, take, drop, length-take, length-drop, drop-of-length-le}
+use lib.Seq.{take-all}
 use Rattle.lists.specs.Facts.{_∈_, bit}
 use Rattle.lists.specs.Order.{insert}
 use Rattle.lists.specs.Part.{mid, patch}
+use Rattle.lists.specs.Rows.{rows}
 use Rattle.stamp.specs.Laws.{merge-comm, length-merge, length-replace}
 use Rattle.stamp.specs.Limits.{parts}
 use Rattle.stamp.specs.Parts.{partsAt, listOf}
+use Rattle.stamp.specs.PartsLaws.{list-parts}
 use Rattle.stamp.specs.Stamp.{Stamp, merge}
-use Rattle.tally.specs.Limits.{promptCount}
-use Rattle.tally.specs.Standing.{CountsFit, among, blank, afresh, standing}
+use Rattle.tally.specs.Standing.{CountsFit, among, blank, standing}
 use Rattle.tally.specs.StandingLaws.{afresh-at, standing-few}
 use Rattle.tally.specs.Tap.{fields, tapOf}
 use Rattle.tally.specs.declared.Standing.{Standing}
@@ -121,6 +123,16 @@ stamp-eight row e l =
     let eight : length (take 8 (drop 2 row)) ≡ 8 = simp (length-take, length-drop) (omega arith) in
     length-replace (take 8 (drop 2 row)) (getD row 0 0) (getD row 1 0) (omega arith) ∙ eight
 
+pub whole-stamp : (s : Stamp) → length s ≡ 8 → listOf (partsAt 0 s) ≡ s
+whole-stamp s e =
+    let l : 0 + 8 ≤ length s = omega arith in
+    let m : length s ≤ 8 = omega arith in
+    list-parts 0 s l ∙ take-all 8 s m
+
+pub table-rows : (ws : List ℕ) → rows 8 (getD ws 1 0) (mid 4 64 ws) ≡ (bookOf ws) .table
+unfolding bookOf parts
+table-rows ws = refl
+
 -- the log closed up by the lowest stamp of the table
 module _ (ws : List ℕ) (h : Held ws) (l : (bookOf ws) .me < (bookOf ws) .screens) where
   log-words : mid 76 2816 ws ≡ logWords logRoom ((bookOf ws) .log)
@@ -143,7 +155,7 @@ module _ (ws : List ℕ) (h : Held ws) (l : (bookOf ws) .me < (bookOf ws) .scree
       let rs = remaining (known b) (b .table) (b .log) in
       let same : stayers s low (b .log) ≡ rs = rw (f, e) (stayers-remaining (known b) (b .table) (b .log) own-row) in
       let region : dropped s low (getD ws 2 0) (mid 76 2816 ws) ≡ logWords logRoom rs =
-          ap₂ (λ (k : ℕ) (r : List ℕ). dropped s low k r) (log-count ws h) log-words ∙ dropped-words logRoom (b .log) (h .shape .log-eight) s low (h .shape .log-few) ∙ ap (logWords logRoom) same in
+      ap₂ (λ (k : ℕ) (r : List ℕ). dropped s low k r) (log-count ws h) log-words ∙ dropped-words logRoom (b .log) (h .shape .log-eight) s low (h .shape .log-few) ∙ ap (logWords logRoom) same in
       let number : n ≡ length rs = g ∙ ap (λ (r : List Record). length (stayers s low r)) read-log ∙ ap length same in
       ap₂ (λ (x : List ℕ) (k : ℕ). set (patch 76 2816 ws x) 2 k) region number
       ∙ ap (λ (r : List ℕ). set (patch 76 2816 r (logWords logRoom rs)) 2 (length rs)) (sym (h .words))
@@ -196,9 +208,10 @@ module _ (before now : Stamp) (ws : List ℕ) (h : Held ws) (y : Ready before no
 
   pub log-start : (ws ≡ wordsOf (appliedFrom before now (bookOf ws) (getD ws 2 0))) × (0 ≡ length (newlyApplied before now (drop (getD ws 2 0) ((bookOf ws) .log))))
   log-start =
-      let e = log-count ws h in
-      (sym (ap (λ (k : ℕ). wordsOf (appliedFrom before now (bookOf ws) k)) e ∙ ap wordsOf (from-none before now (bookOf ws) y) ∙ h .words),
-      rw (e, drop-of-length-le ((bookOf ws) .log) (le-refl (length ((bookOf ws) .log)))) (sym none-newly))
+      let e = log-count ws h in (
+        sym (ap (λ (k : ℕ). wordsOf (appliedFrom before now (bookOf ws) k)) e ∙ ap wordsOf (from-none before now (bookOf ws) y) ∙ h .words),
+        rw (e, drop-of-length-le ((bookOf ws) .log) (le-refl (length ((bookOf ws) .log)))) (sym none-newly),
+      )
 
   module _ (vs : List ℕ) (i : ℕ) (l : i < length ((bookOf ws) .log)) (e : vs ≡ wordsOf (appliedFrom before now (bookOf ws) (i + 1))) where
     there : bookOf vs ≡ appliedFrom before now (bookOf ws) (i + 1)

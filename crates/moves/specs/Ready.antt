@@ -3,7 +3,7 @@ use Prim.Native.Nat.{ℕ, zero, suc, _+_, _≤_, _<_}
 use native.Mathlib.Nat.{le-refl}
 use native.Mathlib.Numerals.{add-one}
 use native.Mathlib.Omega.{arith}
-use mathlib.Core.Path.{_≡_, refl, sym, ap, subst, _∙_}
+use mathlib.Core.Path.{_≡_, refl, sym, ap, _∙_}
 use mathlib.Core.Bool.{Bool, true, false, not, _&&_, cond}
 use mathlib.Core.List.{List, [], _∷_, flatMap}
 use lib.Dec.{T}
@@ -19,17 +19,22 @@ use Rattle.tally.specs.StandingLaws.{afresh-length, count-put}
 use Rattle.tally.specs.Tap.{FitsBits, fields, tapOf, tapsIn, bodyFits}
 use Rattle.tally.specs.TapLaws.{taps-body}
 use Rattle.tally.specs.WordLaws.{fits-bits}
-use Rattle.tally.specs.declared.Standing.{Standing}
 use Rattle.tally.specs.declared.Tap.{Tap}
 use Rattle.ledger.specs.Limits.{most, bookRoom}
 use Rattle.ledger.specs.Log.{newlyApplied, mergeAll}
 use Rattle.ledger.specs.LogLaws.{newly-mem}
 use Rattle.ledger.specs.Record.{Record, stampOf, recordFits, isApplied}
 use Rattle.ledger.specs.RecordLaws.{Obeys, obeys}
+<<<<<<< HEAD
 use Rattle.meaning.specs.Book.{Book, row, known}
 use Rattle.meaning.specs.SettleLaws.{taps-mem}
 use Rattle.meaning.specs.Step.{tapsOf}
 use Rattle.layout.specs.With.{withPrompts}
+=======
+use Rattle.meaning.specs.Book.{Book, row, known}
+use Rattle.meaning.specs.SettleLaws.{taps-mem}
+use Rattle.meaning.specs.Step.{tapsOf}
+>>>>>>> moves
 use Rattle.layout.specs.WordsLaws.{Shape}
 use Rattle.moves.specs.Moves.{isNew, applyOne, applyAll}
 use Rattle.moves.specs.MovesLaws.{absorbed, apply-all}
@@ -201,8 +206,8 @@ module _ (before now : Stamp) (b : Book) (y : Ready before now b) where
         record {
           origin = low-origin (getD (b .log) i noRecord) (getD-in (b .log) i noRecord h);
           countable = λ t. record {
-              order = count-put (tapsOf (newlyApplied before now (drop (i + 1) (b .log)))) (b .counted) .order (y .order);
-              follow = refl;
-              room = rw (← one-counted before now (b .counted) (getD (b .log) i noRecord) (drop (i + 1) (b .log)) t, ← next) (omega (arith, longer before now (b .counted) (b .log) i, y .room));
-            };
+            order = count-put (tapsOf (newlyApplied before now (drop (i + 1) (b .log)))) (b .counted) .order (y .order);
+            follow = refl;
+            room = rw (← one-counted before now (b .counted) (getD (b .log) i noRecord) (drop (i + 1) (b .log)) t, ← next) (omega (arith, longer before now (b .counted) (b .log) i, y .room));
+          };
         }

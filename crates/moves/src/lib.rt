@@ -76,7 +76,19 @@ fn row_at(b: &[u64], at: usize) -> [u64; ROW]
     ensures { λ r. ⌜ recordAt r ≡ recordAt (mid at rowLong (now (b .entry))) ⌝ }
 {
     let p = parts_at(b, at + LABEL);
-    [b[at], b[at + NUMBER], p.p0, p.p1, p.p2, p.p3, p.p4, p.p5, p.p6, p.p7, b[at + BODY]]
+    [
+        b[at],
+        b[at + NUMBER],
+        p.p0,
+        p.p1,
+        p.p2,
+        p.p3,
+        p.p4,
+        p.p5,
+        p.p6,
+        p.p7,
+        b[at + BODY],
+    ]
 }
 
 // The row of the log's i-th record.

@@ -1,8 +1,7 @@
 -- `moves::apply_log` meets its contract. The invariant: the records from the i-th on are applied. Assumes nothing.
 use Prim.Native.Nat.{ℕ, _+_, _-_, _≤_, _<_}
 use native.Mathlib.Omega.{arith}
-use mathlib.Core.Path.{_≡_, refl, sym, ap, subst, _∙_}
-use mathlib.Core.List.{List}
+use mathlib.Core.Path.{_≡_, refl, ap, subst, _∙_}
 use lib.ListN.{length, getD, drop}
 use Rattle.lists.specs.Facts.{bit}
 use Rattle.ledger.specs.Log.{newlyApplied}
@@ -14,10 +13,6 @@ use Rattle.moves.proofs.Turn.{log-start, turn-held, turn-in, turn-appli
 use borrow.Author.Needs.{needs}
 use Rattle.moves.proofs.apply_log.Statement.{statement}
 use Rattle.moves.proofs.apply_log.Tie as tie
-use Rattle.moves.proofs.apply_log.Reads as reads
-use Rattle.moves.proofs.apply_log.Lts as lts
-use Rattle.moves.proofs.apply_row.Reads as apply-row-reads
-use Rattle.moves.proofs.one_if.Reads as one-if-reads
 
 abbrev Inv-loop : tie.InvT-loop
 Inv-loop b₀ before s n₀ i₀ b n i = (i ≤ length ((bookOf b₀) .log)) × (length b ≡ length b₀) × (b ≡ wordsOf (appliedFrom before s (bookOf b₀) i)) × (n ≡ length (newlyApplied before s (drop i ((bookOf b₀) .log)))) × (n + i ≤ 256)
@@ -25,13 +20,11 @@ Inv-loop b₀ before s n₀ i₀ b n i = (i ≤ length ((bookOf b₀) .log)) × 
 abbrev μ-loop : tie.MeasureT-loop
 μ-loop b₀ before s n₀ i₀ b n i = i
 
--- src/lib.rt:236:17
 slice-read-i : tie.Need-slice-read-i Inv-loop μ-loop
 slice-read-i c =
     let s = c .before .before .before .before in
     omega (arith, held-long (s .args .b .now) (s .pre .0))
 
--- src/lib.rt:237:5
 loop-holds : tie.Need-loop-holds Inv-loop μ-loop
 loop-holds c =
     let s = c .before .before .before .before in
@@ -39,11 +32,6 @@ loop-holds c =
     let k = log-start (s .args .before .now) (s .args .s .now) ws (s .pre .0) (s .pre .1 .1) in
     (omega (arith, log-count ws (s .pre .0)), refl, k .0, k .1, omega (arith, log-most ws (s .pre .0)))
 
--- src/lib.rt:238:9
-sub-i : tie.Need-sub-i Inv-loop μ-loop
-sub-i c = search needs
-
--- src/lib.rt:239:21
 apply-row-requires : tie.Need-apply-row-requires Inv-loop μ-loop
 apply-row-requires c κs =
     let l = c .before .before in
@@ -54,25 +42,17 @@ apply-row-requires c κs =
     let back : i ≡ i - 1 + 1 = omega (arith, c .before .loop-test .taken) in
     let e = subst (λ (k : ℕ). l .loop .b ≡ wordsOf (appliedFrom (w .before .now) (w .s .now) (bookOf (w .b .now)) k)) back (l .loop .inv .2) in
     let h = s .pre .0 in
-    let y = s .pre .1 .1 in
-    (turn-held (w .before .now) (w .s .now) (w .b .now) h y (l .loop .b) (i - 1) lt e,
-    (turn-in (w .before .now) (w .s .now) (w .b .now) h y (l .loop .b) (i - 1) lt e,
-    (search needs,
-    turn-applicable (w .before .now) (w .s .now) (w .b .now) h y (l .loop .b) (i - 1) lt e)))
+    let y = s .pre .1 .1 in (
+      turn-held (w .before .now) (w .s .now) (w .b .now) h y (l .loop .b) (i - 1) lt e,
+      (
+        turn-in (w .before .now) (w .s .now) (w .b .now) h y (l .loop .b) (i - 1) lt e,
+        (
+          search needs,
+          turn-applicable (w .before .now) (w .s .now) (w .b .now) h y (l .loop .b) (i - 1) lt e,
+        ),
+      ),
+    )
 
--- src/lib.rt:239:14
-one-if-requires : tie.Need-one-if-requires Inv-loop μ-loop
-one-if-requires c κs = search needs
-
--- src/lib.rt:239:9
-add-n : tie.Need-add-n Inv-loop μ-loop
-add-n c = search needs
-
--- src/lib.rt:237:5
-loop-less : tie.Need-loop-less Inv-loop μ-loop
-loop-less c = search needs
-
--- src/lib.rt:237:5
 loop-again : tie.Need-loop-again Inv-loop μ-loop
 loop-again c =
     let a = c .before .before .before in
@@ -87,18 +67,14 @@ loop-again c =
     let f = subst (λ (k : ℕ). l .loop .n ≡ length (newlyApplied (w .before .now) (w .s .now) (drop k ((bookOf (w .b .now)) .log)))) back (l .loop .inv .3) in
     let h = s .pre .0 in
     let y = s .pre .1 .1 in
-    let one : c .one-if .result ≡ bit (isNew (w .before .now) (w .s .now) (getD ((bookOf (l .loop .b)) .log) (i - 1) noRecord)) = c .one-if .ensures .0 ∙ ap bit (a .apply-row .ensures .1) in
-    (search needs,
-    search needs,
-    a .apply-row .ensures .0 ∙ turn-words (w .before .now) (w .s .now) (w .b .now) h y (l .loop .b) (i - 1) lt e,
-    ap (λ (k : ℕ). l .loop .n + k) one ∙ turn-newly (w .before .now) (w .s .now) (w .b .now) h y (l .loop .b) (i - 1) lt e (l .loop .n) f,
-    omega (arith, l .loop .inv .4, c .one-if .ensures .1, t .loop-test .taken))
+    let one : c .one-if .result ≡ bit (isNew (w .before .now) (w .s .now) (getD ((bookOf (l .loop .b)) .log) (i - 1) noRecord)) = c .one-if .ensures .0 ∙ ap bit (a .apply-row .ensures .1) in (
+      search needs,
+      search needs,
+      a .apply-row .ensures .0 ∙ turn-words (w .before .now) (w .s .now) (w .b .now) h y (l .loop .b) (i - 1) lt e,
+      ap (λ (k : ℕ). l .loop .n + k) one ∙ turn-newly (w .before .now) (w .s .now) (w .b .now) h y (l .loop .b) (i - 1) lt e (l .loop .n) f,
+      omega (arith, l .loop .inv .4, c .one-if .ensures .1, t .loop-test .taken),
+    )
 
--- src/lib.rt:228:1
-same-length : tie.Need-same-length Inv-loop μ-loop
-same-length c = search needs
-
--- src/lib.rt:228:1
 returns : tie.Need-returns Inv-loop μ-loop
 returns c =
     let l = c .before in
@@ -115,11 +91,11 @@ apply-log-spec =
     μ-loop
     slice-read-i
     loop-holds
-    sub-i
+    (λ c. search needs)
     apply-row-requires
-    one-if-requires
-    add-n
-    loop-less
+    (λ c κs. search needs)
+    (λ c. search needs)
+    (λ c. search needs)
     loop-again
-    same-length
+    (λ c. search needs)
     returns)

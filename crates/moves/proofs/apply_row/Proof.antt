@@ -14,11 +14,6 @@ use Rattle.moves.proofs.Turn.{not-now, was-before, newly}
 use borrow.Author.Needs.{needs}
 use Rattle.moves.proofs.apply_row.Statement.{statement}
 use Rattle.moves.proofs.apply_row.Tie as tie
-use Rattle.moves.proofs.apply_row.Reads as reads
-use Rattle.moves.proofs.apply_row.Lts as lts
-use Rattle.log.proofs.is_applied.Reads as is-applied-reads
-use Rattle.moves.proofs.apply_record.Reads as apply-record-reads
-use Rattle.moves.proofs.log_row.Reads as log-row-reads
 
 -- past both tests the record is newly applied
 found :
@@ -38,23 +33,6 @@ found t =
     let f : isApplied (w .before .now) r ≡ false = ap (isApplied (w .before .now)) (sym (g .log-row .ensures)) ∙ sym (a .is-applied2 .ensures) ∙ t .if2 .left in
     newly (w .before .now) (w .s .now) r b e f
 
--- src/lib.rt:210:15
-log-row-requires : tie.Need-log-row-requires
-log-row-requires c κs = search needs
-
--- src/lib.rt:211:20
-slice-aggregate-is-applied : tie.Need-slice-aggregate-is-applied
-slice-aggregate-is-applied c = search needs
-
--- src/lib.rt:211:9
-is-applied-requires : tie.Need-is-applied-requires
-is-applied-requires c κs = search needs
-
--- src/lib.rt:212:9
-same-length : tie.Need-same-length
-same-length c = search needs
-
--- src/lib.rt:212:9
 returns : tie.Need-returns
 returns c =
     let a = c .before in
@@ -66,19 +44,6 @@ returns c =
     let k = not-now (w .before .now) (w .s .now) r (bookOf (w .b .now)) e in
     (sym (ap wordsOf (k .0) ∙ s .pre .0 .words), sym (k .1))
 
--- src/lib.rt:214:19
-slice-aggregate-is-applied-2 : tie.Need-slice-aggregate-is-applied-2
-slice-aggregate-is-applied-2 c = search needs
-
--- src/lib.rt:214:8
-is-applied-requires-2 : tie.Need-is-applied-requires-2
-is-applied-requires-2 c κs = search needs
-
--- src/lib.rt:215:9
-same-length-2 : tie.Need-same-length-2
-same-length-2 c = search needs
-
--- src/lib.rt:215:9
 returns-2 : tie.Need-returns-2
 returns-2 c =
     let a = c .before in
@@ -90,11 +55,6 @@ returns-2 c =
     let k = was-before (w .before .now) (w .s .now) r (bookOf (w .b .now)) e in
     (sym (ap wordsOf (k .0) ∙ s .pre .0 .words), sym (k .1))
 
--- src/lib.rt:217:21
-slice-aggregate-apply-record : tie.Need-slice-aggregate-apply-record
-slice-aggregate-apply-record c = search needs
-
--- src/lib.rt:217:5
 apply-record-requires : tie.Need-apply-record-requires
 apply-record-requires c κs =
     let t = c .before .before in
@@ -105,11 +65,6 @@ apply-record-requires c κs =
     let p = s .pre .1 .1 .1 in
     (s .pre .0, ((search needs, subst (λ (r : Record). r .origin < 8) (sym (g .log-row .ensures)) (p .origin)), subst (λ (r : Record). Countable (r .body) b) (sym (g .log-row .ensures)) (p .countable (subst T (sym (found t .1)) tt))))
 
--- src/lib.rt:202:1
-same-length-3 : tie.Need-same-length-3
-same-length-3 c = search needs
-
--- src/lib.rt:202:1
 returns-3 : tie.Need-returns-3
 returns-3 c =
     let a = c .before .before in
@@ -124,16 +79,16 @@ pub apply-row-spec : {M : Type 1} → statement M
 apply-row-spec =
     tie.close
     (tie.spec
-    log-row-requires
-    slice-aggregate-is-applied
-    is-applied-requires
-    same-length
+    (λ c κs. search needs)
+    (λ c. search needs)
+    (λ c κs. search needs)
+    (λ c. search needs)
     returns
-    slice-aggregate-is-applied-2
-    is-applied-requires-2
-    same-length-2
+    (λ c. search needs)
+    (λ c κs. search needs)
+    (λ c. search needs)
     returns-2
-    slice-aggregate-apply-record
+    (λ c. search needs)
     apply-record-requires
-    same-length-3
+    (λ c. search needs)
     returns-3)

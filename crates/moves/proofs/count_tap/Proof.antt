@@ -11,11 +11,6 @@ use Rattle.moves.proofs.Turn.{counted-among, count-had, noted-shape, no
 use borrow.Author.Needs.{needs}
 use Rattle.moves.proofs.count_tap.Statement.{statement}
 use Rattle.moves.proofs.count_tap.Tie as tie
-use Rattle.moves.proofs.count_tap.Reads as reads
-use Rattle.moves.proofs.count_tap.Lts as lts
-use Rattle.moves.proofs.has_at.Reads as has-at-reads
-use Rattle.moves.proofs.insert_tap.Reads as insert-tap-reads
-use Rattle.moves.proofs.note_tap.Reads as note-tap-reads
 
 -- past the test the tap is not among the counted ones
 unheld : (t : tie.Else1) → among ((bookOf (t .before .before .before .before .before .args .b .now)) .counted) (tapOf (t .before .before .before .before .before .args .w)) ≡ false
@@ -23,31 +18,19 @@ unheld t =
     let s = t .before .before .before .before .before in
     counted-among (s .args .b .now) (tapOf (s .args .w)) ∙ sym (t .before .has-at .ensures) ∙ t .if1 .left
 
--- src/lib.rt:172:13
 slice-read-n : tie.Need-slice-read-n
 slice-read-n c = omega (arith, held-long (c .before .before .args .b .now) (c .before .before .pre .0))
 
--- src/lib.rt:173:8
 has-at-requires : tie.Need-has-at-requires
 has-at-requires c κs =
     let s = c .before .before .before in
     omega (arith, held-long (s .args .b .now) (s .pre .0), counted-most (s .args .b .now) (s .pre .0))
 
--- src/lib.rt:174:9
-same-length : tie.Need-same-length
-same-length c = search needs
-
--- src/lib.rt:174:9
 returns : tie.Need-returns
 returns c =
     let s = c .before .before .before .before .before in
     count-had (s .args .b .now) (s .pre .0) (s .args .w) (counted-among (s .args .b .now) (tapOf (s .args .w)) ∙ sym (c .before .has-at .ensures) ∙ c .if1 .taken)
 
--- src/lib.rt:176:5
-note-tap-requires : tie.Need-note-tap-requires
-note-tap-requires c κs = search needs
-
--- src/lib.rt:177:5
 insert-tap-requires : tie.Need-insert-tap-requires
 insert-tap-requires c κs =
     let n = c .before .before .before in
@@ -58,11 +41,6 @@ insert-tap-requires c κs =
     let ready = noted-insertable ws (s .pre .0) (s .args .w) (s .pre .1) (unheld t) in
     (held-is _ _ shape (n .note-tap .ensures), subst (Insertable (s .args .w)) (sym (book-is _ _ shape (n .note-tap .ensures))) ready)
 
--- src/lib.rt:167:1
-same-length-2 : tie.Need-same-length-2
-same-length-2 c = search needs
-
--- src/lib.rt:167:1
 returns-2 : tie.Need-returns-2
 returns-2 c =
     let i = c .before .before in
@@ -78,9 +56,9 @@ count-tap-spec =
     (tie.spec
     slice-read-n
     has-at-requires
-    same-length
+    (λ c. search needs)
     returns
-    note-tap-requires
+    (λ c κs. search needs)
     insert-tap-requires
-    same-length-2
+    (λ c. search needs)
     returns-2)

@@ -1,38 +1,44 @@
+-- `moves::drop_log` meets its contract. Assumes nothing.
+use Prim.Native.Nat.{ℕ}
+use native.Mathlib.Omega.{arith}
+use mathlib.Core.Path.{ap, _∙_}
+use mathlib.Core.List.{List}
+use lib.ListN.{length, set}
+use Rattle.moves.specs.Places.{held-long, log-most, known-long}
+use Rattle.moves.proofs.Turn.{log-dropped}
 use borrow.Author.Needs.{needs}
 use Rattle.moves.proofs.drop_log.Statement.{statement}
 use Rattle.moves.proofs.drop_log.Tie as tie
-use Rattle.moves.proofs.drop_log.Reads as reads
-use Rattle.moves.proofs.drop_log.Lts as lts
-use Rattle.moves.proofs.drop_at.Reads as drop-at-reads
-use Rattle.moves.proofs.low_of.Reads as low-of-reads
 
--- src/lib.rt:269:15
 low-of-requires : tie.Need-low-of-requires
-low-of-requires c κs = search needs
+low-of-requires c κs =
+    let s = c .before .before .before in
+    (s .pre .0, ap length (s .pre .1 .1) ∙ known-long (s .args .b .now) (s .pre .0) (s .pre .1 .0))
 
--- src/lib.rt:270:17
 slice-read-count : tie.Need-slice-read-count
-slice-read-count c = search needs
+slice-read-count c =
+    let s = c .before .before .before .before .before in
+    omega (arith, held-long (s .args .b .now) (s .pre .0))
 
--- src/lib.rt:271:48
-slice-aggregate-drop-at : tie.Need-slice-aggregate-drop-at
-slice-aggregate-drop-at c = search needs
-
--- src/lib.rt:271:9
 drop-at-requires : tie.Need-drop-at-requires
-drop-at-requires c κs = search needs
+drop-at-requires c κs =
+    let s = c .before .before .before .before .before .before .before in
+    let ws = s .args .b .now in
+    ((omega arith, omega (arith, held-long ws (s .pre .0)), omega (arith, log-most ws (s .pre .0))), ap length (s .pre .1 .1) ∙ known-long ws (s .pre .0) (s .pre .1 .0))
 
--- src/lib.rt:272:5
 slice-write-b : tie.Need-slice-write-b
-slice-write-b c = search needs
+slice-write-b c =
+    let s = c .before .before .before .before .before .before .before .before .before .before in
+    omega (arith, held-long (s .args .b .now) (s .pre .0))
 
--- src/lib.rt:263:1
-same-length : tie.Need-same-length
-same-length c = search needs
-
--- src/lib.rt:263:1
 returns : tie.Need-returns
-returns c = search needs
+returns c =
+    let d = c .before .before in
+    let l = d .before .before .before .before in
+    let s = l .before .before .before .before in
+    let n = d .drop-at .result in
+    ap (λ (r : List ℕ). set r 2 n) (d .drop-at .ensures .0)
+    ∙ log-dropped (s .args .b .now) (s .pre .0) (s .pre .1 .0) (s .args .s .now) (l .low-of .result) n (s .pre .1 .1) (l .low-of .ensures) (d .drop-at .ensures .1)
 
 pub drop-log-spec : {M : Type 1} → statement M
 drop-log-spec =
@@ -40,8 +46,8 @@ drop-log-spec =
     (tie.spec
     low-of-requires
     slice-read-count
-    slice-aggregate-drop-at
+    (λ c. search needs)
     drop-at-requires
     slice-write-b
-    same-length
+    (λ c. search needs)
     returns)

@@ -11,15 +11,10 @@ use Rattle.moves.proofs.Turn.{tap-inserted}
 use borrow.Author.Needs.{needs}
 use Rattle.moves.proofs.insert_tap.Statement.{statement}
 use Rattle.moves.proofs.insert_tap.Tie as tie
-use Rattle.moves.proofs.insert_tap.Reads as reads
-use Rattle.moves.proofs.insert_tap.Lts as lts
-use Rattle.moves.proofs.insert_at.Reads as insert-at-reads
 
--- src/lib.rt:160:13
 slice-read-n : tie.Need-slice-read-n
 slice-read-n c = omega (arith, held-long (c .before .before .args .b .now) (c .before .before .pre .0))
 
--- src/lib.rt:161:5
 insert-at-requires : tie.Need-insert-at-requires
 unfolding bookOf bookRoom
 insert-at-requires c κs =
@@ -27,23 +22,16 @@ insert-at-requires c κs =
     let long = held-long (s .args .b .now) (s .pre .0) in
     ((omega arith, omega (arith, long), omega (arith, counted-count (s .args .b .now) (s .pre .0), s .pre .1 .room)), (s .pre .1 .order, s .pre .1 .new))
 
--- src/lib.rt:162:23
 add-b : tie.Need-add-b
 add-b c =
     let s = c .before .before .before .before .before .before in
     record { fits = omega (arith, counted-most (s .args .b .now) (s .pre .0)) }
 
--- src/lib.rt:162:5
 slice-write-b : tie.Need-slice-write-b
 slice-write-b c =
     let s = c .before .before .before .before .before .before in
     omega (arith, held-long (s .args .b .now) (s .pre .0))
 
--- src/lib.rt:155:1
-same-length : tie.Need-same-length
-same-length c = search needs
-
--- src/lib.rt:155:1
 returns : tie.Need-returns
 returns c =
     let m = c .before .before in
@@ -53,4 +41,4 @@ returns c =
 
 pub insert-tap-spec : {M : Type 1} → statement M
 insert-tap-spec =
-    tie.close (tie.spec slice-read-n insert-at-requires add-b slice-write-b same-length returns)
+    tie.close (tie.spec slice-read-n insert-at-requires add-b slice-write-b (λ c. search needs) returns)

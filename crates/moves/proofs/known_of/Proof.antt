@@ -4,40 +4,27 @@ use Rattle.moves.specs.Places.{held-long, me-small, known-read}
 use borrow.Author.Needs.{needs}
 use Rattle.moves.proofs.known_of.Statement.{statement}
 use Rattle.moves.proofs.known_of.Tie as tie
-use Rattle.moves.proofs.known_of.Reads as reads
-use Rattle.moves.proofs.known_of.Lts as lts
-use Rattle.stamp.proofs.list_of.Reads as list-of-reads
-use Rattle.stamp.proofs.parts_at.Reads as parts-at-reads
 
--- src/lib.rt:73:22
 shared-slice-read-at : tie.Need-shared-slice-read-at
 shared-slice-read-at c =
     let s = c .before .before in
     omega (arith, held-long (s .args .b .now) (s .pre .0), me-small (s .args .b .now) (s .pre .0) (s .pre .1))
 
--- src/lib.rt:73:22
 mul-at : tie.Need-mul-at
 mul-at c =
     let s = c .before .before in
     omega (arith, held-long (s .args .b .now) (s .pre .0), me-small (s .args .b .now) (s .pre .0) (s .pre .1))
 
--- src/lib.rt:73:14
 add-at : tie.Need-add-at
 add-at c =
     let s = c .before .before in
     omega (arith, held-long (s .args .b .now) (s .pre .0), me-small (s .args .b .now) (s .pre .0) (s .pre .1))
 
--- src/lib.rt:74:13
 parts-at-requires : tie.Need-parts-at-requires
 parts-at-requires c κs =
     let s = c .before .before in
     omega (arith, held-long (s .args .b .now) (s .pre .0), me-small (s .args .b .now) (s .pre .0) (s .pre .1))
 
--- src/lib.rt:74:5
-list-of-requires : tie.Need-list-of-requires
-list-of-requires c κs = search needs
-
--- src/lib.rt:68:1
 returns : tie.Need-returns
 returns c =
     let s = c .before .before .before .before in
@@ -46,4 +33,4 @@ returns c =
 pub known-of-spec : {M : Type 1} → statement M
 known-of-spec =
     tie.close
-    (tie.spec shared-slice-read-at mul-at add-at parts-at-requires list-of-requires returns)
+    (tie.spec shared-slice-read-at mul-at add-at parts-at-requires (λ c κs. search needs) returns)

@@ -2,32 +2,24 @@
 use native.Mathlib.Omega.{arith}
 use mathlib.Core.Path.{sym, _∙_}
 use Rattle.moves.specs.Places.{held-long, log-most, log-count, record-words}
-use borrow.Author.Needs.{needs}
 use Rattle.moves.proofs.log_row.Statement.{statement}
 use Rattle.moves.proofs.log_row.Tie as tie
-use Rattle.moves.proofs.log_row.Reads as reads
-use Rattle.moves.proofs.log_row.Lts as lts
-use Rattle.moves.proofs.row_at.Reads as row-at-reads
 
--- src/lib.rt:100:21
 mul-row-at : tie.Need-mul-row-at
 mul-row-at c =
     let s = c .before in
     omega (arith, s .pre .1, held-long (s .args .b .now) (s .pre .0), log-most (s .args .b .now) (s .pre .0), log-count (s .args .b .now) (s .pre .0))
 
--- src/lib.rt:100:15
 add-row-at : tie.Need-add-row-at
 add-row-at c =
     let s = c .before in
     omega (arith, s .pre .1, held-long (s .args .b .now) (s .pre .0), log-most (s .args .b .now) (s .pre .0), log-count (s .args .b .now) (s .pre .0))
 
--- src/lib.rt:100:5
 row-at-requires : tie.Need-row-at-requires
 row-at-requires c κs =
     let s = c .before in
     omega (arith, s .pre .1, held-long (s .args .b .now) (s .pre .0), log-most (s .args .b .now) (s .pre .0), log-count (s .args .b .now) (s .pre .0))
 
--- src/lib.rt:95:1
 returns : tie.Need-returns
 returns c =
     let s = c .before .before in

@@ -1,5 +1,4 @@
 -- `moves::merge_value` meets its contract. Assumes nothing.
-use Prim.Native.Nat.{_≤_}
 use native.Mathlib.Omega.{arith}
 use mathlib.Core.Path.{_∙_}
 use Rattle.moves.specs.Places.{held-long}
@@ -7,21 +6,12 @@ use Rattle.moves.proofs.Turn.{value-merged}
 use borrow.Author.Needs.{needs}
 use Rattle.moves.proofs.merge_value.Statement.{statement}
 use Rattle.moves.proofs.merge_value.Tie as tie
-use Rattle.moves.proofs.merge_value.Reads as reads
-use Rattle.moves.proofs.merge_value.Lts as lts
-use Rattle.moves.proofs.merge_at.Reads as merge-at-reads
 
--- src/lib.rt:117:5
 merge-at-requires : tie.Need-merge-at-requires
 merge-at-requires c κs =
     let s = c .before .before .before in
     omega (arith, held-long (s .args .b .now) (s .pre .0))
 
--- src/lib.rt:112:1
-same-length : tie.Need-same-length
-same-length c = search needs
-
--- src/lib.rt:112:1
 returns : tie.Need-returns
 returns c =
     let m = c .before .before in
@@ -29,4 +19,4 @@ returns c =
     m .merge-at .ensures ∙ value-merged (s .args .b .now) (s .pre .0) (s .args .s .now)
 
 pub merge-value-spec : {M : Type 1} → statement M
-merge-value-spec = tie.close (tie.spec merge-at-requires same-length returns)
+merge-value-spec = tie.close (tie.spec merge-at-requires (λ c. search needs) returns)

@@ -6,22 +6,13 @@ use Rattle.moves.proofs.Turn.{counts-fit, prompt-noted}
 use borrow.Author.Needs.{needs}
 use Rattle.moves.proofs.note_tap.Statement.{statement}
 use Rattle.moves.proofs.note_tap.Tie as tie
-use Rattle.moves.proofs.note_tap.Reads as reads
-use Rattle.moves.proofs.note_tap.Lts as lts
-use Rattle.moves.proofs.note_at.Reads as note-at-reads
 
--- src/lib.rt:142:5
 note-at-requires : tie.Need-note-at-requires
 note-at-requires c κs =
     let s = c .before .before in
     let long = held-long (s .args .b .now) (s .pre .0) in
     ((omega arith, omega (arith, long), omega arith), counts-fit (s .args .b .now) (s .pre .0) (s .args .w) (s .pre .1))
 
--- src/lib.rt:137:1
-same-length : tie.Need-same-length
-same-length c = search needs
-
--- src/lib.rt:137:1
 returns : tie.Need-returns
 returns c =
     let m = c .before .before in
@@ -29,4 +20,4 @@ returns c =
     m .note-at .ensures ∙ prompt-noted (s .args .b .now) (s .pre .0) (s .args .w)
 
 pub note-tap-spec : {M : Type 1} → statement M
-note-tap-spec = tie.close (tie.spec note-at-requires same-length returns)
+note-tap-spec = tie.close (tie.spec note-at-requires (λ c. search needs) returns)

@@ -7,20 +7,10 @@ use Rattle.moves.specs.Places.{held-long}
 use borrow.Author.Needs.{needs}
 use Rattle.moves.proofs.value_of.Statement.{statement}
 use Rattle.moves.proofs.value_of.Tie as tie
-use Rattle.moves.proofs.value_of.Reads as reads
-use Rattle.moves.proofs.value_of.Lts as lts
-use Rattle.stamp.proofs.list_of.Reads as list-of-reads
-use Rattle.stamp.proofs.parts_at.Reads as parts-at-reads
 
--- src/lib.rt:82:13
 parts-at-requires : tie.Need-parts-at-requires
 parts-at-requires c κs = omega (arith, held-long (c .before .args .b .now) (c .before .pre))
 
--- src/lib.rt:82:5
-list-of-requires : tie.Need-list-of-requires
-list-of-requires c κs = search needs
-
--- src/lib.rt:78:1
 returns : tie.Need-returns
 unfolding bookOf mid
 returns c =
@@ -28,4 +18,4 @@ returns c =
     rw (c .list-of .ensures, c .before .parts-at .ensures) (list-parts 68 (s .args .b .now) (omega (arith, held-long (s .args .b .now) (s .pre))))
 
 pub value-of-spec : {M : Type 1} → statement M
-value-of-spec = tie.close (tie.spec parts-at-requires list-of-requires returns)
+value-of-spec = tie.close (tie.spec parts-at-requires (λ c κs. search needs) returns)
