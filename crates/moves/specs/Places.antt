@@ -16,13 +16,7 @@ use Rattle.ledger.specs.Limits.{most, logRoom, bookRoom}
 use Rattle.ledger.specs.Record.{Record}
 use Rattle.log.specs.Region.{rowLong, recordAt, recordsAt}
 use Rattle.log.specs.RegionLaws.{length-records}
-<<<<<<< HEAD
-use Rattle.counted.specs.Region.{tapsAt}
-use Rattle.counted.specs.RegionLaws.{length-taps}
 use Rattle.meaning.specs.Book.{Book, row, known}
-=======
-use Rattle.meaning.specs.Book.{Book, row, known}
->>>>>>> moves
 use Rattle.layout.specs.Words.{bookLong, wordsOf, bookOf}
 use Rattle.layout.specs.WordsLaws.{Shape, long, words-shaped, counted-back, book-words}
 use Rattle.layout.specs.Held.{Held, held-words}

@@ -25,16 +25,9 @@ use Rattle.ledger.specs.Log.{newlyApplied, mergeAll}
 use Rattle.ledger.specs.LogLaws.{newly-mem}
 use Rattle.ledger.specs.Record.{Record, stampOf, recordFits, isApplied}
 use Rattle.ledger.specs.RecordLaws.{Obeys, obeys}
-<<<<<<< HEAD
 use Rattle.meaning.specs.Book.{Book, row, known}
 use Rattle.meaning.specs.SettleLaws.{taps-mem}
 use Rattle.meaning.specs.Step.{tapsOf}
-use Rattle.layout.specs.With.{withPrompts}
-=======
-use Rattle.meaning.specs.Book.{Book, row, known}
-use Rattle.meaning.specs.SettleLaws.{taps-mem}
-use Rattle.meaning.specs.Step.{tapsOf}
->>>>>>> moves
 use Rattle.layout.specs.WordsLaws.{Shape}
 use Rattle.moves.specs.Moves.{isNew, applyOne, applyAll}
 use Rattle.moves.specs.MovesLaws.{absorbed, apply-all}
