@@ -1,0 +1,1 @@
+// The gossip message: its reader, and its records as parts of it.
