@@ -11,7 +11,7 @@ use Rattle.stamp.specs.Stamp.{Stamp}
 use Rattle.tally.specs.Tap.{fields, tapOf}
 use Rattle.ledger.specs.Message.{Message}
 use Rattle.ledger.specs.Record.{Record, place}
-use Rattle.wire.specs.Kinds.{headKind, recordKind, recordIn, stampAt}
+use Rattle.wire.specs.Kinds.{Kind, headKind, recordKind, recordIn, stampAt}
 use Rattle.wire.specs.Read.{lineOf, readable}
 use Rattle.wire.specs.Write.{written}
 use Rattle.wire.specs.declared.Said.{Said}
@@ -37,30 +37,41 @@ countIn bytes = getD (headLine bytes) 3 0
 abbrev pub stampIn : List ℕ → Stamp
 stampIn bytes = stampAt 4 (headLine bytes)
 
--- each record is a part of the message from its own first byte
-unfoldable pub recordParts : List ℕ → List (List ℕ)
-recordParts bytes = rows recordLong (countIn bytes) (drop headLong bytes)
+-- each record is a part of the message from its own first byte; there are count of them
+unfoldable pub partsOf : ℕ → List ℕ → List (List ℕ)
+partsOf count bytes = rows recordLong count (drop headLong bytes)
+
+abbrev pub recordParts : List ℕ → List (List ℕ)
+recordParts bytes = partsOf (countIn bytes) bytes
 
 -- the records go by the N and the stamp of the head
+abbrev pub kindIn : List ℕ → Kind
+kindIn bytes = recordKind (screensIn bytes) (stampIn bytes)
+
+unfoldable pub held : Kind → List ℕ → Record
+held k part = recordIn (lineOf k part)
+
 unfoldable pub recordsIn : List ℕ → List Record
-recordsIn bytes = map (λ part. recordIn (lineOf (recordKind (screensIn bytes) (stampIn bytes)) part)) (recordParts bytes)
+recordsIn bytes = map (held (kindIn bytes)) (recordParts bytes)
 
 -- the message that the bytes hold
 unfoldable pub messageOf : List ℕ → Message
 messageOf bytes = record { sender = getD (headLine bytes) 1 0; screens = screensIn bytes; stamp = stampIn bytes; records = recordsIn bytes }
 
--- the bytes are a gossip message: a head that keeps its rules, the length that its count fixes, records that keep theirs, in order
+-- each part is a record that keeps its rules, and they rise
+unfoldable pub inOrder : Kind → List (List ℕ) → Bool
+inOrder k parts = every (readable k) parts && rising place (map (held k) parts)
+
+-- the bytes are a gossip message: a head that keeps its rules, the length that its count fixes, and records in order
 unfoldable pub wellFormed : List ℕ → Bool
 wellFormed bytes =
-    readable headKind (take headLong bytes)
-    && (eqb (length bytes) (headLong + countIn bytes * recordLong)
-    && (every (readable (recordKind (screensIn bytes) (stampIn bytes))) (recordParts bytes) && rising place (recordsIn bytes)))
+    readable headKind (take headLong bytes) && (eqb (length bytes) (headLong + countIn bytes * recordLong) && inOrder (kindIn bytes) (recordParts bytes))
 
 -- what a reader answers: the head, or refusal 1
 unfoldable pub readGossip : List ℕ → Said
 readGossip bytes = cond (wellFormed bytes) (headKind .said (headLine bytes)) (said.Unreadable 1)
 
--- the one writing of a message
+-- the one writing of a message: the lines of its head and of each record
 unfoldable pub headOf : Message → List ℕ
 headOf m = 1 ∷ m .sender ∷ m .screens ∷ length (m .records) ∷ m .stamp
 
