@@ -3,7 +3,7 @@ use Prim.Native.Nat.{ℕ, suc}
 use native.Mathlib.Omega.{arith}
 use mathlib.Core.Path.{_≡_, subst}
 use mathlib.Core.Bool.{not}
-use mathlib.Core.List.{List}
+use mathlib.Core.List.{List, [], _∷_}
 use lib.Dec.{T}
 use mir.Val.{hasKey}
 use types.Run.{OneOf, miss}
@@ -27,5 +27,14 @@ in-order (said.Open screen screens) n e = omega arith
 in-order said.Send n e = omega arith
 in-order (said.Unreadable number) n e = absurd (omega arith)
 
-pub another : (v : Said) (n : ℕ) (tags : List ℕ) → T (not (hasKey tags n)) → OneOf tags (denote.Enum.Declared.tagOf Rattle.wire.proofs.Said.the-type v) → numberIn v ≡ suc n → ⊥
+-- so the tags of the other cases are not its own
+another : (v : Said) (n : ℕ) (tags : List ℕ) → T (not (hasKey tags n)) → OneOf tags (denote.Enum.Declared.tagOf Rattle.wire.proofs.Said.the-type v) → numberIn v ≡ suc n → ⊥
 another v n tags t h e = miss tags n t (subst (λ (x : ℕ). OneOf tags x) (in-order v n e) h)
+
+pub no-head :
+    (v : Said) → OneOf (1 ∷ 2 ∷ 3 ∷ 4 ∷ 5 ∷ 6 ∷ 7 ∷ 8 ∷ 9 ∷ 10 ∷ 11 ∷ 12 ∷ []) (denote.Enum.Declared.tagOf Rattle.wire.proofs.Said.the-type v) → numberIn v ≡ 1 → ⊥
+no-head v = another v 0 (1 ∷ 2 ∷ 3 ∷ 4 ∷ 5 ∷ 6 ∷ 7 ∷ 8 ∷ 9 ∷ 10 ∷ 11 ∷ 12 ∷ []) tt
+
+pub no-record :
+    (v : Said) → OneOf (0 ∷ 2 ∷ 3 ∷ 4 ∷ 5 ∷ 6 ∷ 7 ∷ 8 ∷ 9 ∷ 10 ∷ 11 ∷ 12 ∷ []) (denote.Enum.Declared.tagOf Rattle.wire.proofs.Said.the-type v) → numberIn v ≡ 2 → ⊥
+no-record v = another v 1 (0 ∷ 2 ∷ 3 ∷ 4 ∷ 5 ∷ 6 ∷ 7 ∷ 8 ∷ 9 ∷ 10 ∷ 11 ∷ 12 ∷ []) tt

@@ -1,3 +1,4 @@
 pub mod Message
 pub mod Find
 pub mod Parts
+pub mod Told

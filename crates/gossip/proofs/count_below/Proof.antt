@@ -60,11 +60,19 @@ loop-less c = search needs
 
 -- src/lib.rt:113:5
 loop-again : tie.Need-loop-again Inv-loop μ-loop
-loop-again c = ?
+unfolding partAt mid
+loop-again c =
+    let l = c .before .before .before in
+    let s = l .before .before .args in
+    let e : l .loop .at + 47 - l .loop .at ≡ 47 = omega arith in
+    (omega arith, omega arith, omega (arith, c .one-below .ensures .1), l .loop .inv .3 ∙ below-more (s .count) (s .msg .now) (s .o) (l .loop .i) (l .loop .found) (omega arith) ∙ rw (c .one-below .ensures .0, e, l .loop .inv .1))
 
 -- src/lib.rt:106:1
 returns : tie.Need-returns Inv-loop μ-loop
-returns c = search needs
+returns c =
+    let l = c .before in
+    let s = l .before .before .args in
+    (sym (l .loop .inv .3 ∙ below-end (s .count) (s .msg .now) (s .o) (l .loop .i) (l .loop .found) (c .loop-test .left)), omega arith)
 
 pub count-below-spec : {M : Type 1} → statement M
 count-below-spec =

@@ -1,4 +1,5 @@
-use Rattle.gossip.proofs.Answers.{another}
+use Rattle.wire.specs.Returns.{failed, passed}
+use Rattle.gossip.proofs.Answers.{no-record}
 use mathlib.Core.List.{[], _∷_}
 use lib.ListN.{drop}
 use Rattle.stamp.specs.Parts.{listOf}
@@ -44,9 +45,10 @@ enum-known-next c = search needs
 -- src/lib.rt:57:13
 returns : tie.Need-returns Inv-loop μ-loop
 returns c =
-    let l = c .before .before .before in
+    let r = c .before in
+    let l = r .before .before in
     let s = l .before .before .args in
-    sym (l .loop .inv .1 ∙ pass-unread (s .n) (listOf (s .m)) (s .count) (s .msg .now) (l .loop .i) (omega arith) _ (c .before .record-at .result) (c .before .record-at .ensures) (another (c .before .record-at .result) 1 _ tt (c .match .keys2)))
+    sym (l .loop .inv .1 ∙ pass-unread (s .n) (listOf (s .m)) (s .count) (s .msg .now) (l .loop .i) (omega arith) _ (r .record-at .result) (r .record-at .ensures) (no-record (r .record-at .result) (c .match .keys2)))
 
 -- src/lib.rt:59:13
 comes-before-requires : tie.Need-comes-before-requires Inv-loop μ-loop
@@ -56,10 +58,10 @@ comes-before-requires c κs = search needs
 returns-2 : tie.Need-returns-2 Inv-loop μ-loop
 returns-2 c =
     let x = c .before .before .before in
-    let l = x .before .before .before .before in
+    let r = x .before .before in
+    let l = r .before .before in
     let s = l .before .before .args in
-    let z : Unit {0} = x .next .given in
-    sym (l .loop .inv .1 ∙ ?)
+    sym (l .loop .inv .1 ∙ pass-falls (s .n) (listOf (s .m)) (s .count) (s .msg .now) (l .loop .i) (omega arith) _ _ _ _ _ (sym (x .next .given .1) ∙ r .record-at .ensures) (failed (c .before .comes-before .ensures) (c .if1 .taken)))
 
 -- src/lib.rt:64:9
 add-i : tie.Need-add-i Inv-loop μ-loop
@@ -71,7 +73,12 @@ loop-less c = search needs
 
 -- src/lib.rt:54:5
 loop-again : tie.Need-loop-again Inv-loop μ-loop
-loop-again c = ?
+loop-again c =
+    let x = c .before .before .before in
+    let r = x .before .before in
+    let l = r .before .before in
+    let s = l .before .before .args in
+    (omega arith, l .loop .inv .1 ∙ pass-on (s .n) (listOf (s .m)) (s .count) (s .msg .now) (l .loop .i) (omega arith) _ _ _ _ _ (sym (x .next .given .1) ∙ r .record-at .ensures) (passed (c .before .comes-before .ensures) (c .if1 .left)))
 
 -- src/lib.rt:47:1
 returns-3 : tie.Need-returns-3 Inv-loop μ-loop

@@ -1,0 +1,48 @@
+-- What `read_gossip` has settled where it returns. Assumes nothing.
+use Prim.Native.Nat.{ℕ, _+_, _*_, _≤_, _<_}
+use native.Mathlib.Omega.{arith}
+use mathlib.Core.Path.{_≡_, refl, sym, ap, _∙_}
+use mathlib.Core.Bool.{Bool, true, false}
+use mathlib.Core.List.{List, [], _∷_}
+use borrow.Author.Tests.{eq-eqb, ne-eqb}
+use lib.Dec.{T, leb→le}
+use lib.ListN.{length, take, length-take}
+use Rattle.lists.specs.Facts.{is-true, is-false, not-from}
+use Rattle.stamp.specs.declared.Parts.{Parts}
+use Rattle.stamp.specs.Parts.{listOf, partsAt}
+use Rattle.wire.specs.Kinds.{headKind, recordKind}
+use Rattle.wire.specs.Laws.{length-readable, lawful-head}
+use Rattle.wire.specs.Read.{readable, readAs}
+use Rattle.wire.specs.declared.Said.the-variants as said
+use Rattle.gossip.specs.Message.{headLong, recordLong, headLine, kindIn, partsOf, inOrder, wellFormed, readGossip}
+use Rattle.gossip.specs.Parts.{head-told}
+use Rattle.gossip.specs.Told.{head-in, head-kind, head-count}
+
+pub headless : (bytes : List ℕ) → readable headKind (take headLong bytes) ≡ false → said.Unreadable 1 ≡ readGossip bytes
+unfolding readGossip wellFormed
+headless bytes e = rw e
+
+pub too-short : (bytes : List ℕ) → length bytes < headLong → said.Unreadable 1 ≡ readGossip bytes
+unfolding headKind
+too-short bytes h =
+    headless bytes (is-false (readable headKind (take headLong bytes)) (not-from (readable headKind (take headLong bytes)) (λ r. omega (arith, length-readable headKind lawful-head (take headLong bytes) r, length-take headLong bytes))))
+
+module _ (bytes : List ℕ) (sender screens count : ℕ) (stamp : Parts) (read : said.Head sender screens count stamp ≡ readAs headKind (take headLong bytes)) where
+  has-head : readable headKind (take headLong bytes) ≡ true
+  has-head = is-true (readable headKind (take headLong bytes)) (head-told (take headLong bytes) (said.Head sender screens count stamp) read refl .0)
+
+  line : List ℕ
+  line = 1 ∷ sender ∷ screens ∷ count ∷ listOf stamp
+
+  pub wrong-long : (length bytes ≡ headLong + count * recordLong → ⊥) → said.Unreadable 1 ≡ readGossip bytes
+  unfolding readGossip wellFormed
+  wrong-long n = rw (has-head, head-in bytes sender screens count stamp read, ne-eqb (length bytes) (headLong + count * recordLong) n)
+
+  module _ (long : length bytes ≡ headLong + count * recordLong) where
+    pub disorder : inOrder (recordKind screens (listOf stamp)) (partsOf count bytes) ≡ false → said.Unreadable 1 ≡ readGossip bytes
+    unfolding readGossip wellFormed partsAt listOf
+    disorder e = rw (has-head, head-in bytes sender screens count stamp read, eq-eqb (length bytes) (headLong + count * recordLong) long, e)
+
+    pub whole : inOrder (recordKind screens (listOf stamp)) (partsOf count bytes) ≡ true → said.Head sender screens count stamp ≡ readGossip bytes
+    unfolding readGossip wellFormed partsAt listOf headKind
+    whole e = rw (has-head, head-in bytes sender screens count stamp read, eq-eqb (length bytes) (headLong + count * recordLong) long, e)
