@@ -24,10 +24,13 @@ ofOrigin o bytes = cond (wellFormed bytes) (keep (λ part. eqb (originOf part) o
 unfoldable pub recordsOf : ℕ → List ℕ → List ℕ
 recordsOf o bytes = flat (ofOrigin o bytes)
 
--- how many of some records come before those of origin o
+-- how many of some records come before those of origin o, and the byte at which those of origin o and above start
 unfoldable pub below : ℕ → List (List ℕ) → ℕ
 below o parts = length (keep (λ part. ltb (originOf part) o) parts)
 
--- where they start: past the records of lower origins; with none, at the end
+unfoldable pub placeOf : ℕ → List (List ℕ) → ℕ
+placeOf o parts = headLong + below o parts * recordLong
+
+-- where the records of an origin start: with none, at the end
 unfoldable pub startOf : ℕ → List ℕ → ℕ
-startOf o bytes = cond (eqb (length (ofOrigin o bytes)) 0) (length bytes) (headLong + below o (recordParts bytes) * recordLong)
+startOf o bytes = cond (eqb (length (ofOrigin o bytes)) 0) (length bytes) (placeOf o (recordParts bytes))

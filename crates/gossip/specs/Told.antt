@@ -55,7 +55,9 @@ told-cases bytes true w v read e =
     let t : T (wellFormed bytes) = subst T (sym w) tt in
     (t, read ∙ rw (w, is-true (readable headKind (take headLong bytes)) (well-head bytes t)))
 told-cases bytes false w v read e =
-    let z : _≡_ {A = ℕ} 0 1 = sym (ap numberIn (read ∙ rw w)) ∙ e in absurd (omega arith)
+    let u : v ≡ said.Unreadable 1 = read ∙ rw w in
+    let z : _≡_ {A = ℕ} 0 1 = sym (ap numberIn u) ∙ e in
+    absurd (omega arith)
 
 pub gossip-told : (bytes : List ℕ) (v : Said) → v ≡ readGossip bytes → numberIn v ≡ 1 → T (wellFormed bytes) × (v ≡ readAs headKind (take headLong bytes))
 gossip-told bytes = told-cases bytes (wellFormed bytes) refl
@@ -65,5 +67,5 @@ unfolding readGossip headKind
 gossip-untold bytes v read n = go (wellFormed bytes) refl
   where
     go : (b : Bool) → wellFormed bytes ≡ b → b ≡ false
-    go true w = absurd (n (ap numberIn (read ∙ rw w)))
+    go true w = let u : v ≡ headKind .said (headLine bytes) = read ∙ rw w in absurd (n (ap numberIn u))
     go false w = refl

@@ -17,7 +17,7 @@ ghost use mathlib.Core.List.{_∷_, []};
 ghost use Rattle.wire.specs.Kinds.{recordKind};
 ghost use Rattle.wire.specs.Read.{readAs};
 ghost use Rattle.gossip.specs.Message.{headLong, recordLong, partsOf, inOrder, readGossip};
-ghost use Rattle.gossip.specs.Find.{partAt, originOf, below, startOf, recordsOf};
+ghost use Rattle.gossip.specs.Find.{partAt, originOf, below, placeOf, startOf, recordsOf};
 
 // Where a record's origin stands.
 const ORIGIN: usize = 1;
@@ -119,6 +119,14 @@ fn count_below(msg: &[u8], count: usize, o: u64) -> usize
     found
 }
 
+// The byte at which the records of origin o and above start.
+fn place(msg: &[u8], count: usize, o: u64) -> usize
+    requires { ⌜ headLong + count * recordLong ≤ length (now msg) ⌝ }
+    ensures { λ r. ⌜ (r ≡ placeOf o (partsOf count (now (msg .entry)))) × (r ≤ length (now (msg .entry))) ⌝ }
+{
+    HEAD_SIZE + count_below(msg, count, o) * RECORD_SIZE
+}
+
 // The records of one origin, as the very part of the message that holds them; with none, or of bytes that are refused, the
 // empty part at the end.
 pub fn records_of(msg: &[u8], origin: u8) -> &[u8]
@@ -131,8 +139,8 @@ pub fn records_of(msg: &[u8], origin: u8) -> &[u8]
     };
     let n = count as usize;
     let o = wide(origin);
-    let a = HEAD_SIZE + count_below(msg, n, o) * RECORD_SIZE;
-    let e = HEAD_SIZE + count_below(msg, n, o + 1) * RECORD_SIZE;
+    let a = place(msg, n, o);
+    let e = place(msg, n, o + 1);
     if a == e {
         return &msg[msg.len()..];
     }

@@ -1,77 +1,72 @@
+-- `gossip::read_gossip` meets its contract. Assumes nothing.
+use Prim.Native.Nat.{_≤_}
+use native.Mathlib.Omega.{arith}
+use mathlib.Core.Path.{_≡_, refl, sym, _∙_}
+use mathlib.Core.List.{_∷_}
 use borrow.Author.Needs.{needs}
+use Rattle.wire.specs.Returns.{failed, passed}
+use Rattle.gossip.specs.Parts.{head-untold}
+use Rattle.gossip.proofs.Answers.{no-head}
+use Rattle.gossip.proofs.Lines.{too-short, headless, wrong-long, disorder, whole, few}
 use Rattle.gossip.proofs.read_gossip.Statement.{statement}
 use Rattle.gossip.proofs.read_gossip.Tie as tie
-use Rattle.gossip.proofs.read_gossip.Reads as reads
-use Rattle.gossip.proofs.read_gossip.Lts as lts
-use Rattle.gossip.proofs.in_order.Reads as in-order-reads
-use Rattle.requests.proofs.read_head.Reads as read-head-reads
 
--- src/lib.rt:74:9
 returns : tie.Need-returns
-returns c = search needs
+returns c = too-short (c .before .before .args .msg .now) (c .if1 .taken)
 
--- src/lib.rt:76:26
-sub-read-head : tie.Need-sub-read-head
-sub-read-head c = search needs
-
--- src/lib.rt:76:26
-part-read-head-start : tie.Need-part-read-head-start
-part-read-head-start c = search needs
-
--- src/lib.rt:76:26
-part-read-head-end : tie.Need-part-read-head-end
-part-read-head-end c = search needs
-
--- src/lib.rt:76:9
-read-head-requires : tie.Need-read-head-requires
-read-head-requires c κs = search needs
-
--- src/lib.rt:77:22
-enum-known-head : tie.Need-enum-known-head
-enum-known-head c = search needs
-
--- src/lib.rt:78:9
 returns-2 : tie.Need-returns-2
-returns-2 c = search needs
+returns-2 c =
+    let r = c .before in
+    let s = r .before .before .before .before .args in
+    headless (s .msg .now) (head-untold _ (r .read-head .result) (r .read-head .ensures) (no-head (r .read-head .result) (c .match .keys2)))
 
--- src/lib.rt:81:33
+-- at most 256 records
+bounded : (c : tie.After-known-told) → c .before .head .given .0 .1 .1 .0 ≤ 256
+bounded c = few (c .before .before .before .before .before .before .before .args .msg .now) _ _ _ _ (sym (c .before .head .given .1) ∙ c .before .before .before .read-head .ensures)
+
 mul-if2 : tie.Need-mul-if2
-mul-if2 c = search needs
+mul-if2 c = omega (arith, bounded c)
 
--- src/lib.rt:81:21
 add-if2 : tie.Need-add-if2
-add-if2 c = search needs
+add-if2 c = omega (arith, bounded c)
 
--- src/lib.rt:82:9
 returns-3 : tie.Need-returns-3
-returns-3 c = search needs
+returns-3 c =
+    let h = c .before .before in
+    let r = h .before .before in
+    let s = r .before .before .before .before .args in
+    wrong-long (s .msg .now) _ _ _ _ (sym (h .head .given .1) ∙ r .read-head .ensures) (c .if2 .taken)
 
--- src/lib.rt:84:9
-in-order-requires : tie.Need-in-order-requires
-in-order-requires c κs = search needs
-
--- src/lib.rt:85:9
 returns-4 : tie.Need-returns-4
-returns-4 c = search needs
+returns-4 c =
+    let l = c .before .before in
+    let h = l .before .before in
+    let r = h .before .before in
+    let s = r .before .before .before .before .args in
+    disorder (s .msg .now) _ _ _ _ (sym (h .head .given .1) ∙ r .read-head .ensures) (l .if2 .left) (failed (c .before .in-order .ensures) (c .if3 .taken))
 
--- src/lib.rt:70:1
 returns-5 : tie.Need-returns-5
-returns-5 c = search needs
+returns-5 c =
+    let l = c .before .before in
+    let h = l .before .before in
+    let r = h .before .before in
+    let s = r .before .before .before .before .args in
+    whole (s .msg .now) _ _ _ _ (sym (h .head .given .1) ∙ r .read-head .ensures) (l .if2 .left) (passed (c .before .in-order .ensures) (c .if3 .left))
 
 pub read-gossip-spec : {M : Type 1} → statement M
 read-gossip-spec =
     tie.close
     (tie.spec
     returns
-    sub-read-head
-    part-read-head-start
-    part-read-head-end
-    read-head-requires
-    enum-known-head
+    (λ c. search needs)
+    (λ c. search needs)
+    (λ c. search needs)
+    (λ c κs. search needs)
+    (λ c. search needs)
     returns-2
     mul-if2
     add-if2
     returns-3
-    in-order-requires
+    (λ c κs. search needs)
     returns-4
     returns-5)
