@@ -39,11 +39,15 @@ flat-append (r ∷ a) b = ap (λ (l : List ℕ). r ++ l) (flat-append a b) ∙ s
 wide-keep : (w : ℕ) (p : List ℕ → Bool) (rs : List (List ℕ)) → Wide w rs → Wide w (keep p rs)
 unfolding Wide
 wide-keep w p [] h = tt
-wide-keep w p (r ∷ rs) h = go (p r)
+wide-keep w p (r ∷ rs) h = go (p r) (wide-keep w p rs (h .1))
   where
-    go : (b : Bool) → Wide w (cond b (r ∷ keep p rs) (keep p rs))
-    go true = (h .0, wide-keep w p rs (h .1))
-    go false = wide-keep w p rs (h .1)
+    go : (b : Bool) → Wide w (keep p rs) → Wide w (cond b (r ∷ keep p rs) (keep p rs))
+    go true k = (h .0, k)
+    go false k = k
+
+keep-same : (p q : List ℕ → Bool) (rs : List (List ℕ)) → ((r : List ℕ) → p r ≡ q r) → keep p rs ≡ keep q rs
+keep-same p q [] f = refl
+keep-same p q (r ∷ rs) f = ap₂ (λ (b : Bool) (l : List (List ℕ)). cond b (r ∷ l) l) (f r) (keep-same p q rs f)
 
 -- a part by what stands before it
 middle : (p l s u : List ℕ) → mid (length p + length l) (length s) (p ++ (l ++ (s ++ u))) ≡ s
@@ -110,8 +114,16 @@ module _ (bytes : List ℕ) (w : T (wellFormed bytes)) where
     place-next = rw of-origin (omega (arith, count-next originOf o (recordParts bytes)))
 
     pub found : mid (placeOf o (recordParts bytes)) (placeOf (o + 1) (recordParts bytes) - placeOf o (recordParts bytes)) bytes ≡ recordsOf o bytes
-    unfolding recordsOf
-    found = ?
+    unfolding recordsOf placeOf below
+    found =
+        let h : length (take headLong bytes) ≡ headLong = length-take-le headLong bytes (omega (arith, well-long bytes w)) in
+        let l : length (flat lower) ≡ length lower * recordLong = length-flat recordLong lower (wide-keep recordLong (λ p. ltb (originOf p) o) (recordParts bytes) wide) in
+        let s : length (flat same) ≡ length same * recordLong = length-flat recordLong same (wide-keep recordLong (λ p. eqb (originOf p) o) (recordParts bytes) wide) in
+        let k : placeOf (o + 1) (recordParts bytes) - placeOf o (recordParts bytes) ≡ length (flat same) = omega (arith, place-next, ap (λ (r : List (List ℕ)). length r) of-origin) in
+        ap₂ (λ (a b : ℕ). mid a b bytes) (ap₂ _+_ (sym h) (sym l)) k
+        ∙ ap (mid (length (take headLong bytes) + length (flat lower)) (length (flat same))) split
+        ∙ middle (take headLong bytes) (flat lower) (flat same) (flat upper)
+        ∙ ap flat (sym of-origin)
 
     pub start-some : (placeOf o (recordParts bytes) ≡ placeOf (o + 1) (recordParts bytes) → ⊥) → startOf o bytes ≡ placeOf o (recordParts bytes)
     unfolding startOf
@@ -126,3 +138,10 @@ module _ (bytes : List ℕ) (w : T (wellFormed bytes)) where
     origin-rows =
         ap (rows recordLong (length (ofOrigin o bytes))) (sym (append-nil (flat (ofOrigin o bytes))))
         ∙ rows-flat recordLong (ofOrigin o bytes) [] (rw of-origin (wide-keep recordLong (λ p. eqb (originOf p) o) (recordParts bytes) wide))
+
+    -- they hold just the message's records of that origin
+    pub origin-records : map (held (kindIn bytes)) (ofOrigin o bytes) ≡ keep (λ r. eqb (r .origin) o) (recordsIn bytes)
+    unfolding recordsIn
+    origin-records =
+        ap (map (held (kindIn bytes))) (of-origin ∙ keep-same (λ p. eqb (originOf p) o) (λ p. eqb (held (kindIn bytes) p .origin) o) (recordParts bytes) (λ p. ap (λ (x : ℕ). eqb x o) (sym (origin-byte (screensIn bytes) (stampIn bytes) p))))
+        ∙ map-keep (held (kindIn bytes)) (λ r. eqb (r .origin) o) (recordParts bytes)

@@ -34,16 +34,8 @@ module _ {A : Type 0} (f : A → ℕ) (o : ℕ) where
   module _ (key : A → List ℕ) (climbs : (x y : A) → T (keyBefore (key x) (key y)) → f x ≤ f y) where
     pub one-run : (xs : List A) → T (rising key xs) → keep (λ x. ltb (f x) o) xs ++ (keep (λ x. eqb (f x) o) xs ++ keep (λ x. ltb o (f x)) xs) ≡ xs
     one-run [] t = refl
-    one-run (x ∷ xs) t =
-        either (le-or-lt o (f x))
-        (λ h. either (le-or-lt (f x) o)
-        (λ k. let e : keep (λ y. ltb (f y) o) xs ≡ [] = none-lower h in rw (le-ltb (f x) o h, eq-eqb (f x) o (omega arith), le-ltb o (f x) k, e) (ap (λ (l : List A). x ∷ l) (rw e at rest)))
-        (λ k. rw (le-ltb (f x) o h, ne-eqb (f x) o (λ e. omega arith), lt-ltb o (f x) k, none-lower h, none-same k) (ap (λ (l : List A). x ∷ l) (rw (none-lower h, none-same k) at rest))))
-        (λ h. rw (lt-ltb (f x) o h, ne-eqb (f x) o (λ e. omega arith), le-ltb o (f x) (omega arith)) (ap (λ (l : List A). x ∷ l) rest))
+    one-run (x ∷ xs) t = split (one-run xs (and-r (every (λ y. keyBefore (key x) (key y)) xs) (rising key xs) t))
       where
-        rest : keep (λ y. ltb (f y) o) xs ++ (keep (λ y. eqb (f y) o) xs ++ keep (λ y. ltb o (f y)) xs) ≡ xs
-        rest = one-run xs (and-r (every (λ y. keyBefore (key x) (key y)) xs) (rising key xs) t)
-
         above : (y : A) → y ∈ xs → f x ≤ f y
         above y m = climbs x y (every-at (λ z. keyBefore (key x) (key z)) xs (and-l (every (λ z. keyBefore (key x) (key z)) xs) (rising key xs) t) m)
 
@@ -52,3 +44,13 @@ module _ {A : Type 0} (f : A → ℕ) (o : ℕ) where
 
         none-same : o < f x → keep (λ y. eqb (f y) o) xs ≡ []
         none-same h = keep-none (λ y. eqb (f y) o) xs (λ y m. ne-eqb (f y) o (λ e. omega (arith, above y m)))
+
+        split :
+            keep (λ y. ltb (f y) o) xs ++ (keep (λ y. eqb (f y) o) xs ++ keep (λ y. ltb o (f y)) xs) ≡ xs
+            → keep (λ y. ltb (f y) o) (x ∷ xs) ++ (keep (λ y. eqb (f y) o) (x ∷ xs) ++ keep (λ y. ltb o (f y)) (x ∷ xs)) ≡ x ∷ xs
+        split rest =
+            either (le-or-lt o (f x))
+            (λ h. either (le-or-lt (f x) o)
+            (λ k. rw (le-ltb (f x) o h, eq-eqb (f x) o (omega arith), le-ltb o (f x) k, none-lower h) (ap (λ (l : List A). x ∷ l) (rw (none-lower h) at rest)))
+            (λ k. rw (le-ltb (f x) o h, ne-eqb (f x) o (λ e. omega arith), lt-ltb o (f x) k, none-lower h, none-same k) (ap (λ (l : List A). x ∷ l) (rw (none-lower h, none-same k) at rest))))
+            (λ h. rw (lt-ltb (f x) o h, ne-eqb (f x) o (λ e. omega arith), le-ltb o (f x) (omega arith)) (ap (λ (l : List A). x ∷ l) rest))
