@@ -54,6 +54,20 @@ middle : (p l s u : List ℕ) → mid (length p + length l) (length s) (p ++ (l 
 unfolding mid
 middle p l s u = rw (← append-assoc p l (s ++ u), drop-at (p ++ l) (s ++ u) (length p + length l) (length-append p l)) (take-at s u (length s) refl)
 
+-- the part at the end, and the records of bytes that are refused
+pub end-part : (l : List ℕ) → mid (length l) (length l - length l) l ≡ []
+unfolding mid
+end-part l = let e : length l - length l ≡ 0 = omega arith in rw e
+
+module _ (o : ℕ) (bytes : List ℕ) (r : wellFormed bytes ≡ false) where
+  pub none-refused : recordsOf o bytes ≡ []
+  unfolding recordsOf ofOrigin flat
+  none-refused = rw r
+
+  pub start-refused : startOf o bytes ≡ length bytes
+  unfolding startOf ofOrigin
+  start-refused = rw r
+
 -- the origin that a part holds is its second byte
 pub origin-byte : (n : ℕ) (m : Stamp) (part : List ℕ) → held (recordKind n m) part .origin ≡ originOf part
 unfolding held lineOf recordKind numberFrom originOf
@@ -124,6 +138,10 @@ module _ (bytes : List ℕ) (w : T (wellFormed bytes)) where
         ∙ ap (mid (length (take headLong bytes) + length (flat lower)) (length (flat same))) split
         ∙ middle (take headLong bytes) (flat lower) (flat same) (flat upper)
         ∙ ap flat (sym of-origin)
+
+    pub none-found : placeOf o (recordParts bytes) ≡ placeOf (o + 1) (recordParts bytes) → recordsOf o bytes ≡ []
+    unfolding mid
+    none-found e = let z : placeOf (o + 1) (recordParts bytes) - placeOf o (recordParts bytes) ≡ 0 = omega arith in sym found ∙ rw z
 
     pub start-some : (placeOf o (recordParts bytes) ≡ placeOf (o + 1) (recordParts bytes) → ⊥) → startOf o bytes ≡ placeOf o (recordParts bytes)
     unfolding startOf

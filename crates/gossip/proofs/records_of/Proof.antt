@@ -1,103 +1,111 @@
+-- `gossip::records_of` meets its contract. Assumes nothing.
+use Prim.Native.Nat.{ℕ, _+_, _-_, _*_, _≤_}
+use native.Mathlib.Omega.{arith}
+use mathlib.Core.Path.{_≡_, refl, sym, ap, ap₂, _∙_}
+use lib.Dec.{T}
+use lib.ListN.{length}
 use borrow.Author.Needs.{needs}
+use Rattle.lists.specs.Part.{mid}
+use Rattle.wire.specs.Kinds.{headKind}
+use Rattle.wire.specs.declared.Said.the-variants as said
+use Rattle.gossip.specs.Message.{headLong, recordLong, countIn, partsOf, recordParts, wellFormed}
+use Rattle.gossip.specs.Find.{placeOf, recordsOf, startOf}
+use Rattle.gossip.specs.FindLaws.{end-part, none-refused, start-refused, place-next, found, none-found, start-some, start-none}
+use Rattle.gossip.specs.Told.{gossip-told, gossip-untold, head-count, well-long}
+use Rattle.gossip.proofs.Answers.{no-head}
 use Rattle.gossip.proofs.records_of.Statement.{statement}
 use Rattle.gossip.proofs.records_of.Tie as tie
-use Rattle.gossip.proofs.records_of.Reads as reads
-use Rattle.gossip.proofs.records_of.Lts as lts
-use Rattle.bigendian.proofs.wide.Reads as wide-reads
-use Rattle.gossip.proofs.place.Reads as place-reads
-use Rattle.gossip.proofs.read_gossip.Reads as read-gossip-reads
 
--- src/lib.rt:136:9
-read-gossip-requires : tie.Need-read-gossip-requires
-read-gossip-requires c κs = search needs
-
--- src/lib.rt:137:45
-enum-known-head : tie.Need-enum-known-head
-enum-known-head c = search needs
-
--- src/lib.rt:138:16
-sub-result : tie.Need-sub-result
-sub-result c = search needs
-
--- src/lib.rt:138:16
-part-result-start : tie.Need-part-result-start
-part-result-start c = search needs
-
--- src/lib.rt:138:16
-part-result-end : tie.Need-part-result-end
-part-result-end c = search needs
-
--- src/lib.rt:138:9
 returns : tie.Need-returns
-returns c = search needs
+unfolding mid
+returns c =
+    let r = c .before .before in
+    let s = r .before .before .args in
+    let e = gossip-untold (s .msg .now) (r .read-gossip .result) (r .read-gossip .ensures) (no-head (r .read-gossip .result) (c .before .match .keys2)) in
+    (end-part (s .msg .now) ∙ sym (none-refused (s .origin) (s .msg .now) e), (refl, rw (start-refused (s .origin) (s .msg .now) e) (omega arith)))
 
--- src/lib.rt:141:9
-wide-requires : tie.Need-wide-requires
-wide-requires c κs = search needs
+-- past the `let`: the message is well formed, and its count is the head's
+well : (c : tie.After-known-told) → T (wellFormed (c .before .before .before .before .before .args .msg .now))
+well c =
+    let h = c .before in
+    let r = h .before .before in
+    gossip-told (r .before .before .args .msg .now) (said.Head _ _ _ _) (sym (h .head .given .1) ∙ r .read-gossip .ensures) refl .0
 
--- src/lib.rt:142:9
+counted : (c : tie.After-known-told) → countIn (c .before .before .before .before .before .args .msg .now) ≡ c .before .head .given .0 .1 .1 .0
+counted c =
+    let h = c .before in
+    let r = h .before .before in
+    head-count (r .before .before .args .msg .now) _ _ _ _ (gossip-told (r .before .before .args .msg .now) (said.Head _ _ _ _) (sym (h .head .given .1) ∙ r .read-gossip .ensures) refl .1)
+
+fits : (c : tie.After-known-told) → headLong + c .before .head .given .0 .1 .1 .0 * recordLong ≤ length (c .before .before .before .before .before .args .msg .now)
+fits c = omega (arith, counted c, well-long (c .before .before .before .before .before .args .msg .now) (well c))
+
 place-requires : tie.Need-place-requires
-place-requires c κs = search needs
+place-requires c κs = fits (c .before)
 
--- src/lib.rt:143:27
-add-place : tie.Need-add-place
-add-place c = search needs
-
--- src/lib.rt:143:9
 place-requires-2 : tie.Need-place-requires-2
-place-requires-2 c κs = search needs
+place-requires-2 c κs = fits (c .before .before)
 
--- src/lib.rt:145:16
-sub-result-2 : tie.Need-sub-result-2
-sub-result-2 c = search needs
+-- the two places, in the contract's words
+first : (c : tie.After-place2) → c .before .place .result ≡ placeOf (c .before .before .before .before .before .before .before .before .args .origin) (recordParts (c .before .before .before .before .before .before .before .before .args .msg .now))
+first c =
+    let k = c .before .before .before in
+    c .before .place .ensures .0 ∙ ap₂ (λ (o n : ℕ). placeOf o (partsOf n (k .before .before .before .before .before .args .msg .now))) (c .before .before .wide .ensures) (sym (counted k))
 
--- src/lib.rt:145:16
-part-result-start-2 : tie.Need-part-result-start-2
-part-result-start-2 c = search needs
+second : (c : tie.After-place2) → c .place2 .result ≡ placeOf (c .before .before .before .before .before .before .before .before .args .origin + 1) (recordParts (c .before .before .before .before .before .before .before .before .args .msg .now))
+second c =
+    let k = c .before .before .before in
+    c .place2 .ensures .0 ∙ ap₂ (λ (o n : ℕ). placeOf (o + 1) (partsOf n (k .before .before .before .before .before .args .msg .now))) (c .before .before .wide .ensures) (sym (counted k))
 
--- src/lib.rt:145:16
-part-result-end-2 : tie.Need-part-result-end-2
-part-result-end-2 c = search needs
+rises : (c : tie.After-place2) → c .before .place .result ≤ c .place2 .result
+rises c =
+    let k = c .before .before .before in
+    let s = k .before .before .before .before .before .args in
+    omega (arith, first c, second c, place-next (s .msg .now) (well k) (s .origin))
 
--- src/lib.rt:145:9
 returns-2 : tie.Need-returns-2
-returns-2 c = search needs
+unfolding mid
+returns-2 c =
+    let p = c .before .before in
+    let k = p .before .before .before in
+    let s = k .before .before .before .before .before .args in
+    let e = sym (first p) ∙ c .before .if1 .taken ∙ second p in
+    (end-part (s .msg .now) ∙ sym (none-found (s .msg .now) (well k) (s .origin) e), (refl, rw (start-none (s .msg .now) (well k) (s .origin) e) (omega arith)))
 
--- src/lib.rt:147:5
 sub-result-3 : tie.Need-sub-result-3
-sub-result-3 c = search needs
+sub-result-3 c = rises (c .before)
 
--- src/lib.rt:147:5
 part-result-start-3 : tie.Need-part-result-start-3
-part-result-start-3 c = search needs
+part-result-start-3 c = rises (c .before)
 
--- src/lib.rt:147:5
-part-result-end-3 : tie.Need-part-result-end-3
-part-result-end-3 c = search needs
-
--- src/lib.rt:132:1
 returns-3 : tie.Need-returns-3
-returns-3 c = search needs
+unfolding mid
+returns-3 c =
+    let p = c .before .before in
+    let k = p .before .before .before in
+    let s = k .before .before .before .before .before .args in
+    let e = start-some (s .msg .now) (well k) (s .origin) (λ q. c .before .if1 .left (first p ∙ q ∙ sym (second p))) in
+    (rw (first p, second p) (found (s .msg .now) (well k) (s .origin)), (refl, rw (e, ← first p) (omega arith)))
 
 pub records-of-spec : {M : Type 1} → statement M
 records-of-spec =
     tie.close
     (tie.spec
-    read-gossip-requires
-    enum-known-head
-    sub-result
-    part-result-start
-    part-result-end
+    (λ c κs. search needs)
+    (λ c. search needs)
+    (λ c. search needs)
+    (λ c. search needs)
+    (λ c. search needs)
     returns
-    wide-requires
+    (λ c κs. search needs)
     place-requires
-    add-place
+    (λ c. search needs)
     place-requires-2
-    sub-result-2
-    part-result-start-2
-    part-result-end-2
+    (λ c. search needs)
+    (λ c. search needs)
+    (λ c. search needs)
     returns-2
     sub-result-3
     part-result-start-3
-    part-result-end-3
+    (λ c. search needs)
     returns-3)
