@@ -1,1 +1,6 @@
 pub mod Message
+pub mod Find
+pub mod Parts
+pub mod Told
+pub mod Runs
+pub mod FindLaws

@@ -1,0 +1,58 @@
+-- What `read_gossip` has settled where it returns. Assumes nothing.
+use Prim.Native.Nat.{ℕ, _+_, _*_, _≤_, _<_}
+use native.Mathlib.Omega.{arith}
+use mathlib.Core.Path.{_≡_, refl, sym, ap, _∙_}
+use mathlib.Core.Bool.{Bool, true, false, _&&_}
+use mathlib.Core.List.{List, [], _∷_}
+use borrow.Author.Tests.{eq-eqb, ne-eqb}
+use lib.Dec.{T, leb, leb→le}
+use lib.ListN.{length, getD, take, length-take}
+use Rattle.lists.specs.Facts.{and-l, and-r, is-true, is-false, not-from}
+use Rattle.stamp.specs.declared.Parts.{Parts}
+use Rattle.stamp.specs.Parts.{listOf, partsAt}
+use Rattle.stamp.specs.Stamp.{stampFits}
+use Rattle.ledger.specs.Limits.{logRoom}
+use Rattle.ledger.specs.Message.{inRange}
+use Rattle.wire.specs.Kinds.{headKind, recordKind, shaped, stampAt}
+use Rattle.wire.specs.Laws.{length-readable, lawful-head}
+use Rattle.wire.specs.Read.{lineOf, readable, readAs}
+use Rattle.wire.specs.declared.Said.the-variants as said
+use Rattle.gossip.specs.Message.{headLong, recordLong, headLine, kindIn, partsOf, inOrder, wellFormed, readGossip}
+use Rattle.gossip.specs.Parts.{head-told}
+use Rattle.gossip.specs.Told.{head-in, head-kind, head-count}
+
+pub headless : (bytes : List ℕ) → readable headKind (take headLong bytes) ≡ false → said.Unreadable 1 ≡ readGossip bytes
+unfolding readGossip wellFormed
+headless bytes e = rw e
+
+pub too-short : (bytes : List ℕ) → length bytes < headLong → said.Unreadable 1 ≡ readGossip bytes
+unfolding headKind
+too-short bytes h =
+    headless bytes (is-false (readable headKind (take headLong bytes)) (not-from (readable headKind (take headLong bytes)) (λ r. omega (arith, length-readable headKind lawful-head (take headLong bytes) r, length-take headLong bytes))))
+
+module _ (bytes : List ℕ) (sender screens count : ℕ) (stamp : Parts) (read : said.Head sender screens count stamp ≡ readAs headKind (take headLong bytes)) where
+  has-head : readable headKind (take headLong bytes) ≡ true
+  has-head = is-true (readable headKind (take headLong bytes)) (head-told (take headLong bytes) (said.Head sender screens count stamp) read refl .0)
+
+  -- at most 256 records
+  pub few : count ≤ 256
+  unfolding readable headKind logRoom
+  few =
+      let l = lineOf headKind (take headLong bytes) in
+      let t = head-told (take headLong bytes) (said.Head sender screens count stamp) read refl in
+      let k = and-r (shaped 1 (take headLong bytes)) (headKind .rules l) (t .0) in
+      let m = and-l (leb (getD l 3 0) 256) (stampFits (getD l 2 0) (stampAt 4 l)) (and-r (inRange (getD l 1 0) (getD l 2 0)) (leb (getD l 3 0) 256 && stampFits (getD l 2 0) (stampAt 4 l)) k) in
+      omega (arith, leb→le (getD l 3 0) 256 m, ap (λ (r : List ℕ). getD r 3 0) (t .1))
+
+  pub wrong-long : (length bytes ≡ headLong + count * recordLong → ⊥) → said.Unreadable 1 ≡ readGossip bytes
+  unfolding readGossip wellFormed
+  wrong-long n = rw (has-head, head-in bytes sender screens count stamp read, ne-eqb (length bytes) (headLong + count * recordLong) n)
+
+  module _ (long : length bytes ≡ headLong + count * recordLong) where
+    pub disorder : inOrder (recordKind screens (listOf stamp)) (partsOf count bytes) ≡ false → said.Unreadable 1 ≡ readGossip bytes
+    unfolding readGossip wellFormed partsAt listOf
+    disorder e = rw (has-head, head-in bytes sender screens count stamp read, eq-eqb (length bytes) (headLong + count * recordLong) long, e)
+
+    pub whole : inOrder (recordKind screens (listOf stamp)) (partsOf count bytes) ≡ true → said.Head sender screens count stamp ≡ readGossip bytes
+    unfolding readGossip wellFormed partsAt listOf headKind
+    whole e = rw (has-head, head-in bytes sender screens count stamp read, eq-eqb (length bytes) (headLong + count * recordLong) long, e)
