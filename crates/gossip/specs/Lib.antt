@@ -5,3 +5,4 @@ pub mod Told
 pub mod Runs
 pub mod FindLaws
 pub mod LineLaws
+pub mod MessageLaws

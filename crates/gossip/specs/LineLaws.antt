@@ -56,7 +56,7 @@ module _ (n : ℕ) (s : Stamp) (t : T (stampFits n s)) where
   stamp-widths = subst (λ (l : Stamp). T (fieldsFit stampBody l)) stamp-list (subst (λ (l : Stamp). T (every (λ x. ltb x word) l)) (sym stamp-list) words)
 
 -- what a readable line says is that line
-said-line : (k : Kind) → Lawful k → (bytes : List ℕ) → T (readable k bytes) → figures (k .said (lineOf k bytes)) ≡ lineOf k bytes
+pub said-line : (k : Kind) → Lawful k → (bytes : List ℕ) → T (readable k bytes) → figures (k .said (lineOf k bytes)) ≡ lineOf k bytes
 unfolding readAs
 said-line k l bytes r = rw (is-true (readable k bytes) r) at (figures-read k l bytes r)
 
@@ -132,3 +132,54 @@ line-record n m p r =
     let l = lineOf (recordKind n m) p in
     ap (λ (x : Tap). 2 ∷ getD l 1 0 ∷ getD l 2 0 ∷ stampAt 3 l ++ fields x) (tap-word (tapAt 11 l) (fits-bits (tapAt 11 l) (part-rules n m p r .0)))
     ∙ said-line (recordKind n m) (lawful-record n m) p r
+
+told-stamp : (a b c d : ℕ) (p : Parts) → stampAt 4 (a ∷ b ∷ c ∷ d ∷ listOf p) ≡ listOf p
+unfolding partsAt listOf
+told-stamp a b c d p = refl
+
+module _ (m : Message) (t : T (messageFits bodyFits m)) where
+  pub stamp-fits : T (stampFits (m .screens) (m .stamp))
+  unfolding messageFits
+  stamp-fits = all-at (messageRules bodyFits m) 1 t
+
+  in-house : T (inRange (m .sender) (m .screens))
+  unfolding messageFits
+  in-house = all-at (messageRules bodyFits m) 0 t
+
+  few : T (leb (length (m .records)) logRoom)
+  unfolding messageFits
+  few = all-at (messageRules bodyFits m) 2 t
+
+  pub house : m .screens ≤ 8
+  unfolding inRange most
+  house = leb→le (m .screens) 8 (all-at (leb fewest (m .screens) ∷ leb (m .screens) most ∷ ltb (m .sender) (m .screens) ∷ []) 1 in-house)
+
+  sender-small : m .sender < m .screens
+  unfolding inRange
+  sender-small = ltb→lt (m .sender) (m .screens) (all-at (leb fewest (m .screens) ∷ leb (m .screens) most ∷ ltb (m .sender) (m .screens) ∷ []) 2 in-house)
+
+  count-small : length (m .records) ≤ 256
+  unfolding logRoom
+  count-small = leb→le (length (m .records)) 256 few
+
+  pub head-stamp : stampAt 4 (headOf m) ≡ m .stamp
+  unfolding headOf
+  head-stamp =
+      let e = stamp-list (m .screens) (m .stamp) stamp-fits in
+      ap (λ (s : Stamp). stampAt 4 (1 ∷ m .sender ∷ m .screens ∷ length (m .records) ∷ s)) (sym e) ∙ told-stamp 1 (m .sender) (m .screens) (length (m .records)) (partsAt 0 (m .stamp)) ∙ e
+
+  head-widths : T (fieldsFit (1 ∷ 1 ∷ 1 ∷ 2 ∷ stampBody) (headOf m))
+  unfolding headOf
+  head-widths =
+      both (ltb (m .sender) 256) _ (lt→ltb (m .sender) 256 (omega (arith, sender-small, house)))
+      (both (ltb (m .screens) 256) _ (lt→ltb (m .screens) 256 (omega (arith, house)))
+      (both (ltb (length (m .records)) 65536) _ (lt→ltb (length (m .records)) 65536 (omega (arith, count-small))) (stamp-widths (m .screens) (m .stamp) stamp-fits)))
+
+  head-rules-kept : T (inRange (m .sender) (m .screens) && (leb (length (m .records)) logRoom && stampFits (m .screens) (stampAt 4 (headOf m))))
+  head-rules-kept =
+      rw head-stamp
+      (both (inRange (m .sender) (m .screens)) (leb (length (m .records)) logRoom && stampFits (m .screens) (m .stamp)) in-house (both (leb (length (m .records)) logRoom) (stampFits (m .screens) (m .stamp)) few stamp-fits))
+
+  pub head-writable : T (writable headKind (headOf m))
+  unfolding writable headKind headOf
+  head-writable = both (fieldsFit (1 ∷ 1 ∷ 1 ∷ 2 ∷ stampBody) (headOf m)) _ head-widths head-rules-kept
