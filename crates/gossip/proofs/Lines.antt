@@ -18,7 +18,7 @@ use Rattle.wire.specs.Laws.{length-readable, lawful-head}
 use Rattle.wire.specs.Read.{lineOf, readable, readAs}
 use Rattle.wire.specs.declared.Said.the-variants as said
 use Rattle.gossip.specs.Message.{headLong, recordLong, headLine, kindIn, partsOf, inOrder, wellFormed, readGossip}
-use Rattle.gossip.specs.Parts.{head-told}
+use Rattle.gossip.specs.Parts.{head-rules, head-told}
 use Rattle.gossip.specs.Told.{head-in, head-kind, head-count}
 
 pub headless : (bytes : List ℕ) → readable headKind (take headLong bytes) ≡ false → said.Unreadable 1 ≡ readGossip bytes
@@ -36,13 +36,11 @@ module _ (bytes : List ℕ) (sender screens count : ℕ) (stamp : Parts) (read :
 
   -- at most 256 records
   pub few : count ≤ 256
-  unfolding readable headKind logRoom
+  unfolding logRoom
   few =
-      let l = lineOf headKind (take headLong bytes) in
       let t = head-told (take headLong bytes) (said.Head sender screens count stamp) read refl in
-      let k = and-r (shaped 1 (take headLong bytes)) (headKind .rules l) (t .0) in
-      let m = and-l (leb (getD l 3 0) 256) (stampFits (getD l 2 0) (stampAt 4 l)) (and-r (inRange (getD l 1 0) (getD l 2 0)) (leb (getD l 3 0) 256 && stampFits (getD l 2 0) (stampAt 4 l)) k) in
-      omega (arith, leb→le (getD l 3 0) 256 m, ap (λ (r : List ℕ). getD r 3 0) (t .1))
+      let l = lineOf headKind (take headLong bytes) in
+      omega (arith, leb→le (getD l 3 0) 256 (head-rules (take headLong bytes) (t .0) .1), ap (λ (r : List ℕ). getD r 3 0) (t .1))
 
   pub wrong-long : (length bytes ≡ headLong + count * recordLong → ⊥) → said.Unreadable 1 ≡ readGossip bytes
   unfolding readGossip wellFormed
