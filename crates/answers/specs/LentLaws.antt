@@ -1,22 +1,18 @@
 -- Laws: on the words of a sound book an operation is the step of that book; a promise has one outcome; a question changes nothing.
 -- Assumes nothing.
-use Prim.Native.Nat.{ℕ, _≤_, _<_}
-use native.Mathlib.Omega.{arith}
-use mathlib.Core.Path.{_≡_, refl, sym, ap, ap₂, subst, _∙_}
-use mathlib.Core.Bool.{Bool, true, false, not, cond}
-use mathlib.Core.List.{List, _++_}
-use mathlib.Core.Option.{none, some}
-use lib.Dec.{T, eqb, ltb}
-use lib.ListN.{length, getD, take, drop}
-use Rattle.lists.specs.Facts.{is-true, is-false, tell, either}
-use Rattle.lists.specs.Tests.{firstOf}
-use Rattle.stamp.specs.Parts.{partsAt, listOf}
+use Prim.Native.Nat.{ℕ}
+use mathlib.Core.Path.{_≡_, refl, sym, ap, subst, _∙_}
+use mathlib.Core.Bool.{Bool, true, false, cond}
+use mathlib.Core.List.{List}
+use lib.Dec.{T}
+use lib.ListN.{getD}
+use Rattle.lists.specs.Facts.{is-true}
+use Rattle.stamp.specs.Parts.{partsAt}
 use Rattle.stamp.specs.PartsLaws.{parts-list}
-use Rattle.stamp.specs.declared.Parts.{Parts}
 use Rattle.wire.specs.Kinds.{questionKind, stampAt}
 use Rattle.wire.specs.Read.{lineOf, readable}
-use Rattle.wire.specs.Write.{Output, refuse}
-use Rattle.gossip.specs.Message.{wellFormed, messageOf, bytesOf}
+use Rattle.wire.specs.Write.{refuse}
+use Rattle.gossip.specs.Message.{bytesOf}
 use Rattle.meaning.specs.AnswerLaws.{ask-keeps}
 use Rattle.meaning.specs.Book.{Book}
 use Rattle.meaning.specs.BookLaws.{Sound}

@@ -5,11 +5,10 @@ use mathlib.Core.Path.{_≡_, refl, sym, ap, ap₂, subst, _∙_}
 use mathlib.Core.Logic.{_⊎_, inl, inr}
 use mathlib.Core.Bool.{Bool, true, false, not, cond}
 use mathlib.Core.List.{List, [], _∷_, _++_, map, List·Memᴰ·cases-cons}
-use mathlib.Core.Option.{Option, none, some}
-use lib.Dec.{T, eqb, ltb, ltb→lt, lt→ltb, nltb→le}
+use lib.Dec.{T, eqb, ltb, ltb→lt, nltb→le}
 use lib.ListN.{length, getD, take, drop}
 use lib.Seq.{take-at}
-use Rattle.lists.specs.Facts.{_∈_, either, tell, is-true, is-false, here, there, none-in}
+use Rattle.lists.specs.Facts.{_∈_, either, is-true, here, there, none-in}
 use Rattle.lists.specs.MoreFacts.{eq→eqb}
 use Rattle.lists.specs.Tests.{firstOf}
 use Rattle.stamp.specs.Stamp.{Stamp}
@@ -22,20 +21,20 @@ use Rattle.ledger.specs.Record.{Record}
 use Rattle.wire.specs.Kinds.{tapKind, questionKind, tapAt, stampAt}
 use Rattle.wire.specs.Read.{lineOf, readable}
 use Rattle.wire.specs.Write.{Output, refuse}
-use Rattle.wire.specs.declared.Written.the-variants.{Wrote, Refused}
+use Rattle.wire.specs.declared.Written.the-variants.{Wrote}
 use Rattle.gossip.specs.Message.{wellFormed, messageOf, bytesOf}
-use Rattle.meaning.specs.AnswerLaws.{ask-keeps}
+use Rattle.gossip.specs.MessageLaws.{message-bytes, bytes-well}
 use Rattle.meaning.specs.Book.{Book, fresh}
-use Rattle.meaning.specs.BookLaws.{Sound, send-fits}
+use Rattle.meaning.specs.BookLaws.{Sound}
 use Rattle.meaning.specs.Reply.{Reply, refusal, permits}
 use Rattle.meaning.specs.Step.{Outcome, openStops, tapStep, newRecord, ask, send, gossipStep}
 use Rattle.layout.specs.SoundWords.{sound-lawful}
 use Rattle.layout.specs.Words.{bookLong, bookOf, wordsOf, lawful}
-use Rattle.answers.specs.Lent.{Lent, hearTap, hearQuestion, hearGossip, tapOn, questionOn, gossipOn, putFront, sendOn, openOr, openOn}
+use Rattle.answers.specs.Lent.{Lent, hearTap, tapOn, questionOn, gossipOn, putFront, sendOn, openOr, openOn}
 use Rattle.answers.specs.LentLaws.{lentOf, book-back, tap-on, question-on, gossip-on, send-on, question-keeps}
 use Rattle.house.specs.Consent.{answerAt, Consent}
 use Rattle.house.specs.Demand.{Answered, Demand}
-use Rattle.house.specs.House.{House, openHouse, put, grown, afterTap, afterQuestion, afterSend, afterGossip, Step, Run}
+use Rattle.house.specs.House.{House, openHouse, put, grown, afterTap, afterSend, afterGossip, Step, Run}
 use Rattle.house.specs.House as books
 use Rattle.house.specs.LentHouse.{LentHouse, openLent, recordFor, lentTap, lentQuestion, lentSend, lentGossip, LentStep, tap, question, sends, arrives, LentRun, opened, onward, held, promptIn, labelIn, LentDemand}
 use Rattle.house.proofs.Consent.{no-refused-consent}
@@ -67,237 +66,236 @@ put-same n W B f i w e k l = either (put-either W i w k) (λ p. p .1 ∙ e ∙ a
 put-past : (n : ℕ) (B : ℕ → Book) → ((k : ℕ) → n ≤ k → B k ≡ fresh k n) → (i : ℕ) → i < n → (b : Book) (k : ℕ) → n ≤ k → put B i b k ≡ fresh k n
 put-past n B f i u b k l = either (put-either B i b k) (λ p. absurd (omega (arith, p .0))) (λ p. p .1 ∙ f k l)
 
--- what the wire gives back
-module _ (well : (m : Message) → T (messageFits bodyFits m) → T (wellFormed (bytesOf m))) (back : (m : Message) → T (messageFits bodyFits m) → messageOf (bytesOf m) ≡ m) where
-  messages-back : (ms : List Message) → ((m : Message) → m ∈ ms → T (messageFits bodyFits m)) → map messageOf (map bytesOf ms) ≡ ms
-  messages-back [] f = refl
-  messages-back (m ∷ ms) f = ap₂ _∷_ (back m (f m here)) (messages-back ms (λ x y. f x (there y)))
+-- the messages that some bytes hold are those that were written
+messages-back : (ms : List Message) → ((m : Message) → m ∈ ms → T (messageFits bodyFits m)) → map messageOf (map bytesOf ms) ≡ ms
+messages-back [] f = refl
+messages-back (m ∷ ms) f = ap₂ _∷_ (message-bytes m (f m here)) (messages-back ms (λ x y. f x (there y)))
 
-  -- bytes of some messages are those of one of them
-  bytes-from : (ms : List Message) (bytes : List ℕ) → bytes ∈ map bytesOf ms → (m : Message) × (m ∈ ms) × (bytes ≡ bytesOf m)
-  bytes-from [] bytes x = none-in x
-  bytes-from (m ∷ ms) bytes x = either (List·Memᴰ·cases-cons x) (λ e. (m, here, e)) (λ y. later (bytes-from ms bytes y))
+-- bytes of some messages are those of one of them
+bytes-from : (ms : List Message) (bytes : List ℕ) → bytes ∈ map bytesOf ms → (m : Message) × (m ∈ ms) × (bytes ≡ bytesOf m)
+bytes-from [] bytes x = none-in x
+bytes-from (m ∷ ms) bytes x = either (List·Memᴰ·cases-cons x) (λ e. (m, here, e)) (λ y. later (bytes-from ms bytes y))
+  where
+    later : ((z : Message) × (z ∈ ms) × (bytes ≡ bytesOf z)) → (z : Message) × (z ∈ m ∷ ms) × (bytes ≡ bytesOf z)
+    later w = (w .0, there (w .1), w .2)
+
+module _ (n : ℕ) (lo : fewest ≤ n) (hi : n ≤ most) where
+  sound-of : {h : LentHouse} (s : Same n h) (k : ℕ) → k < n → Sound (s .house .book k)
+  sound-of s k u = run-inv n lo hi (s .run) .screens k u .book-sound
+
+  fits-of : {h : LentHouse} (s : Same n h) (m : Message) → m ∈ s .house .sent → T (messageFits bodyFits m)
+  fits-of s m x = run-inv n lo hi (s .run) .messages m x .fits
+
+  book-of : {h : LentHouse} (s : Same n h) (k : ℕ) → k < n → bookOf (h .words k) ≡ s .house .book k
+  book-of s k u = ap bookOf (s .words k u) ∙ book-back (s .house .book k) (sound-of s k u)
+
+  -- the house of books that the slices hold is that of the run
+  held-same : {h : LentHouse} (s : Same n h) → held n h ≡ s .house
+  unfolding held
+  held-same {h} s =
+      let q : map messageOf (h .sent) ≡ s .house .sent = ap (map messageOf) (s .sent) ∙ messages-back (s .house .sent) (fits-of s) in
+      λ j. record { book = λ k. at k (ltb k n) refl j; sent = q j; history = s .history j }
     where
-      later : ((z : Message) × (z ∈ ms) × (bytes ≡ bytesOf z)) → (z : Message) × (z ∈ m ∷ ms) × (bytes ≡ bytesOf z)
-      later w = (w .0, there (w .1), w .2)
+      at : (k : ℕ) (c : Bool) → ltb k n ≡ c → cond c (bookOf (h .words k)) (fresh k n) ≡ s .house .book k
+      at k true e = book-of s k (ltb→lt k n (subst T (sym e) tt))
+      at k false e = sym (s .past k (nltb→le k n (subst (λ (c : Bool). T (not c)) (sym e) tt)))
 
-  module _ (n : ℕ) (lo : fewest ≤ n) (hi : n ≤ most) where
-    sound-of : {h : LentHouse} (s : Same n h) (k : ℕ) → k < n → Sound (s .house .book k)
-    sound-of s k u = run-inv n lo hi (s .run) .screens k u .book-sound
+  -- the books after a step of the slices, by a step of the books or none
+  record Next {h : LentHouse} (s : Same n h) (h′ : LentHouse) : Type 0 where
+    pub same : Same n h′
+    pub way : Step n (s .house) (same .house) ⊎ (s .house ≡ same .house)
 
-    fits-of : {h : LentHouse} (s : Same n h) (m : Message) → m ∈ s .house .sent → T (messageFits bodyFits m)
-    fits-of s m x = run-inv n lo hi (s .run) .messages m x .fits
+  not-grown : (k : ℕ) (r : Record) (history : List Record) → grown (refusal k) r history ≡ history
+  unfolding grown
+  not-grown k r history = refl
 
-    book-of : {h : LentHouse} (s : Same n h) (k : ℕ) → k < n → bookOf (h .words k) ≡ s .house .book k
-    book-of s k u = ap bookOf (s .words k u) ∙ book-back (s .house .book k) (sound-of s k u)
+  next-tap : {h : LentHouse} (s : Same n h) (i : ℕ) → i < n → (bytes : List ℕ) → Next s (lentTap h i bytes)
+  unfolding lentTap afterTap recordFor
+  next-tap {h} s i u bytes = go (readable (tapKind (b .screens)) bytes) refl
+    where
+      b : Book
+      b = s .house .book i
 
-    -- the house of books that the slices hold is that of the run
-    held-same : {h : LentHouse} (s : Same n h) → held n h ≡ s .house
-    unfolding held
-    held-same {h} s =
-        let q : map messageOf (h .sent) ≡ s .house .sent = ap (map messageOf) (s .sent) ∙ messages-back (s .house .sent) (fits-of s) in
-        λ j. record { book = λ k. at k (ltb k n) refl j; sent = q j; history = s .history j }
-      where
-        at : (k : ℕ) (c : Bool) → ltb k n ≡ c → cond c (bookOf (h .words k)) (fresh k n) ≡ s .house .book k
-        at k true e = book-of s k (ltb→lt k n (subst T (sym e) tt))
-        at k false e = sym (s .past k (nltb→le k n (subst (λ (c : Bool). T (not c)) (sym e) tt)))
+      t : Tap
+      t = tapAt 1 (lineOf (tapKind (b .screens)) bytes)
 
-    -- the books after a step of the slices, by a step of the books or none
-    record Next {h : LentHouse} (s : Same n h) (h′ : LentHouse) : Type 0 where
-      pub same : Same n h′
-      pub way : Step n (s .house) (same .house) ⊎ (s .house ≡ same .house)
+      l : Stamp
+      l = stampAt 6 (lineOf (tapKind (b .screens)) bytes)
 
-    not-grown : (k : ℕ) (r : Record) (history : List Record) → grown (refusal k) r history ≡ history
-    unfolding grown
-    not-grown k r history = refl
+      -- what the slice answers and leaves, once it is known whether the bytes are read
+      comes : (o : Outcome) → hearTap b bytes ≡ o → tapOn (h .words i) bytes ≡ lentOf o
+      comes o e = ap (λ (w : List ℕ). tapOn w bytes) (s .words i u) ∙ tap-on b (sound-of s i u) bytes ∙ ap lentOf e
 
-    next-tap : {h : LentHouse} (s : Same n h) (i : ℕ) → i < n → (bytes : List ℕ) → Next s (lentTap h i bytes)
-    unfolding lentTap afterTap recordFor
-    next-tap {h} s i u bytes = go (readable (tapKind (b .screens)) bytes) refl
-      where
-        b : Book
-        b = s .house .book i
+      becomes : newRecord (bookOf (h .words i)) (tapAt 1 (lineOf (tapKind (bookOf (h .words i) .screens)) bytes)) (stampAt 6 (lineOf (tapKind (bookOf (h .words i) .screens)) bytes)) ≡ newRecord b t l
+      becomes = ap (λ (x : Book). newRecord x (tapAt 1 (lineOf (tapKind (x .screens)) bytes)) (stampAt 6 (lineOf (tapKind (x .screens)) bytes))) (book-of s i u)
 
-        t : Tap
-        t = tapAt 1 (lineOf (tapKind (b .screens)) bytes)
+      go : (c : Bool) → readable (tapKind (b .screens)) bytes ≡ c → Next s (lentTap h i bytes)
+      go true e =
+          let q = comes (tapStep b t l) (ap (λ (c : Bool). cond c (tapStep b t l) (record { reply = refusal 1; book = b })) e) in
+          record {
+            same = record {
+              house = afterTap (s .house) i t l;
+              run = books.onward (s .run) (books.tap i u t l);
+              words = put-words n (h .words) (s .house .book) (s .words) i (tapOn (h .words i) bytes .words) ((tapStep b t l) .book) (ap (λ (o : Lent). o .words) q);
+              past = put-past n (s .house .book) (s .past) i u ((tapStep b t l) .book);
+              sent = s .sent;
+              history = ap₂ (λ (x : Reply) (y : Record). grown x y (h .history)) (ap (λ (o : Lent). o .reply) q) becomes ∙ ap (grown ((tapStep b t l) .reply) (newRecord b t l)) (s .history);
+            };
+            way = inl (books.tap i u t l);
+          }
+      go false e =
+          let q = comes (record { reply = refusal 1; book = b }) (ap (λ (c : Bool). cond c (tapStep b t l) (record { reply = refusal 1; book = b })) e) in
+          record {
+            same = record {
+              house = s .house;
+              run = s .run;
+              words = put-same n (h .words) (s .house .book) (s .words) i (tapOn (h .words i) bytes .words) (ap (λ (o : Lent). o .words) q);
+              past = s .past;
+              sent = s .sent;
+              history = ap₂ (λ (x : Reply) (y : Record). grown x y (h .history)) (ap (λ (o : Lent). o .reply) q) becomes ∙ not-grown 1 (newRecord b t l) (h .history) ∙ s .history;
+            };
+            way = inr refl;
+          }
 
-        l : Stamp
-        l = stampAt 6 (lineOf (tapKind (b .screens)) bytes)
+  -- a question leaves every slice as it was
+  next-question : {h : LentHouse} (s : Same n h) (i : ℕ) → i < n → (bytes : List ℕ) → Next s (lentQuestion h i bytes)
+  unfolding lentQuestion
+  next-question {h} s i u bytes =
+      record {
+        same = record {
+          house = s .house;
+          run = s .run;
+          words = put-same n (h .words) (s .house .book) (s .words) i (questionOn (h .words i) bytes .words) (question-keeps (h .words i) bytes ∙ s .words i u);
+          past = s .past;
+          sent = s .sent;
+          history = s .history;
+        };
+        way = inr refl;
+      }
 
-        -- what the slice answers and leaves, once it is known whether the bytes are read
-        comes : (o : Outcome) → hearTap b bytes ≡ o → tapOn (h .words i) bytes ≡ lentOf o
-        comes o e = ap (λ (w : List ℕ). tapOn w bytes) (s .words i u) ∙ tap-on b (sound-of s i u) bytes ∙ ap lentOf e
+  -- what stands at the front of the output is the one writing of the message
+  front : (bytes out : List ℕ) (k : ℕ) → putFront bytes out .answer ≡ Wrote k → take k (putFront bytes out .bytes) ≡ bytes
+  front bytes out k e = go (ltb (length out) (length bytes)) refl e
+    where
+      go : (c : Bool) → ltb (length out) (length bytes) ≡ c → cond c (refuse 12 out) (record { answer = Wrote (length bytes); bytes = bytes ++ drop (length bytes) out }) .answer ≡ Wrote k → take k (cond c (refuse 12 out) (record { answer = Wrote (length bytes); bytes = bytes ++ drop (length bytes) out }) .bytes) ≡ bytes
+      go true e f = let z : _≡_ {A = ℕ} 0 1 = cc in absurd (omega arith)
+      go false e f = take-at bytes (drop (length bytes) out) k (cc)
 
-        becomes : newRecord (bookOf (h .words i)) (tapAt 1 (lineOf (tapKind (bookOf (h .words i) .screens)) bytes)) (stampAt 6 (lineOf (tapKind (bookOf (h .words i) .screens)) bytes)) ≡ newRecord b t l
-        becomes = ap (λ (x : Book). newRecord x (tapAt 1 (lineOf (tapKind (x .screens)) bytes)) (stampAt 6 (lineOf (tapKind (x .screens)) bytes))) (book-of s i u)
+  next-send : {h : LentHouse} (s : Same n h) (i : ℕ) → i < n → (out : List ℕ) (k : ℕ) → sendOn (h .words i) out .answer ≡ Wrote k → Next s (lentSend h i out k)
+  unfolding lentSend afterSend
+  next-send {h} s i u out k e =
+      record {
+        same = record {
+          house = afterSend (s .house) i;
+          run = books.onward (s .run) (books.sends i u);
+          words = s .words;
+          past = s .past;
+          sent = ap₂ _∷_ (ap (λ (o : Output). take k (o .bytes)) square ∙ front (bytesOf (send (s .house .book i))) out k (sym (ap (λ (o : Output). o .answer) square) ∙ e)) (s .sent);
+          history = s .history;
+        };
+        way = inl (books.sends i u);
+      }
+    where
+      square : sendOn (h .words i) out ≡ putFront (bytesOf (send (s .house .book i))) out
+      square = ap (λ (w : List ℕ). sendOn w out) (s .words i u) ∙ send-on (s .house .book i) (sound-of s i u) out
 
-        go : (c : Bool) → readable (tapKind (b .screens)) bytes ≡ c → Next s (lentTap h i bytes)
-        go true e =
-            let q = comes (tapStep b t l) (ap (λ (c : Bool). cond c (tapStep b t l) (record { reply = refusal 1; book = b })) e) in
-            record {
-              same = record {
-                house = afterTap (s .house) i t l;
-                run = books.onward (s .run) (books.tap i u t l);
-                words = put-words n (h .words) (s .house .book) (s .words) i (tapOn (h .words i) bytes .words) ((tapStep b t l) .book) (ap (λ (o : Lent). o .words) q);
-                past = put-past n (s .house .book) (s .past) i u ((tapStep b t l) .book);
-                sent = s .sent;
-                history = ap₂ (λ (x : Reply) (y : Record). grown x y (h .history)) (ap (λ (o : Lent). o .reply) q) becomes ∙ ap (grown ((tapStep b t l) .reply) (newRecord b t l)) (s .history);
-              };
-              way = inl (books.tap i u t l);
-            }
-        go false e =
-            let q = comes (record { reply = refusal 1; book = b }) (ap (λ (c : Bool). cond c (tapStep b t l) (record { reply = refusal 1; book = b })) e) in
-            record {
-              same = record {
-                house = s .house;
-                run = s .run;
-                words = put-same n (h .words) (s .house .book) (s .words) i (tapOn (h .words i) bytes .words) (ap (λ (o : Lent). o .words) q);
-                past = s .past;
-                sent = s .sent;
-                history = ap₂ (λ (x : Reply) (y : Record). grown x y (h .history)) (ap (λ (o : Lent). o .reply) q) becomes ∙ not-grown 1 (newRecord b t l) (h .history) ∙ s .history;
-              };
-              way = inr refl;
-            }
+  -- bytes that were sent are heard as the message that they are
+  heard-sent : {h : LentHouse} (s : Same n h) (i : ℕ) → i < n → (m : Message) → m ∈ s .house .sent → gossipOn (h .words i) (bytesOf m) ≡ lentOf (gossipStep (s .house .book i) m)
+  heard-sent {h} s i u m x =
+      ap (λ (w : List ℕ). gossipOn w (bytesOf m)) (s .words i u)
+      ∙ gossip-on (s .house .book i) (sound-of s i u) (bytesOf m)
+      ∙ ap (λ (c : Bool). lentOf (cond c (gossipStep (s .house .book i) (messageOf (bytesOf m))) (record { reply = refusal 1; book = s .house .book i }))) (is-true (wellFormed (bytesOf m)) (bytes-well m (fits-of s m x)))
+      ∙ ap (λ (y : Message). lentOf (gossipStep (s .house .book i) y)) (message-bytes m (fits-of s m x))
 
-    -- a question leaves every slice as it was
-    next-question : {h : LentHouse} (s : Same n h) (i : ℕ) → i < n → (bytes : List ℕ) → Next s (lentQuestion h i bytes)
-    unfolding lentQuestion
-    next-question {h} s i u bytes =
-        record {
-          same = record {
-            house = s .house;
-            run = s .run;
-            words = put-same n (h .words) (s .house .book) (s .words) i (questionOn (h .words i) bytes .words) (question-keeps (h .words i) bytes ∙ s .words i u);
-            past = s .past;
-            sent = s .sent;
-            history = s .history;
-          };
-          way = inr refl;
-        }
+  next-gossip : {h : LentHouse} (s : Same n h) (i : ℕ) → i < n → (bytes : List ℕ) → bytes ∈ h .sent → Next s (lentGossip h i bytes)
+  unfolding lentGossip afterGossip
+  next-gossip {h} s i u bytes x = go (bytes-from (s .house .sent) bytes (subst (λ (l : List (List ℕ)). bytes ∈ l) (s .sent) x))
+    where
+      go : ((m : Message) × (m ∈ s .house .sent) × (bytes ≡ bytesOf m)) → Next s (lentGossip h i bytes)
+      go w =
+          let q = ap (gossipOn (h .words i)) (w .2) ∙ heard-sent s i u (w .0) (w .1) in
+          record {
+            same = record {
+              house = afterGossip (s .house) i (w .0);
+              run = books.onward (s .run) (books.arrives i u (w .0) (w .1));
+              words = put-words n (h .words) (s .house .book) (s .words) i (gossipOn (h .words i) bytes .words) ((gossipStep (s .house .book i) (w .0)) .book) (ap (λ (o : Lent). o .words) q);
+              past = put-past n (s .house .book) (s .past) i u ((gossipStep (s .house .book i) (w .0)) .book);
+              sent = s .sent;
+              history = s .history;
+            };
+            way = inl (books.arrives i u (w .0) (w .1));
+          }
 
-    -- what stands at the front of the output is the one writing of the message
-    front : (bytes out : List ℕ) (k : ℕ) → putFront bytes out .answer ≡ Wrote k → take k (putFront bytes out .bytes) ≡ bytes
-    front bytes out k e = go (ltb (length out) (length bytes)) refl e
-      where
-        go : (c : Bool) → ltb (length out) (length bytes) ≡ c → cond c (refuse 12 out) (record { answer = Wrote (length bytes); bytes = bytes ++ drop (length bytes) out }) .answer ≡ Wrote k → take k (cond c (refuse 12 out) (record { answer = Wrote (length bytes); bytes = bytes ++ drop (length bytes) out }) .bytes) ≡ bytes
-        go true e f = let z : _≡_ {A = ℕ} 0 1 = cc in absurd (omega arith)
-        go false e f = take-at bytes (drop (length bytes) out) k (cc)
+  next : {h h′ : LentHouse} (s : Same n h) → LentStep n h h′ → Next s h′
+  next s (tap i u bytes) = next-tap s i u bytes
+  next s (question i u bytes) = next-question s i u bytes
+  next s (sends i u out k e) = next-send s i u out k e
+  next s (arrives i u bytes x) = next-gossip s i u bytes x
 
-    next-send : {h : LentHouse} (s : Same n h) (i : ℕ) → i < n → (out : List ℕ) (k : ℕ) → sendOn (h .words i) out .answer ≡ Wrote k → Next s (lentSend h i out k)
-    unfolding lentSend afterSend
-    next-send {h} s i u out k e =
-        record {
-          same = record {
-            house = afterSend (s .house) i;
-            run = books.onward (s .run) (books.sends i u);
-            words = s .words;
-            past = s .past;
-            sent = ap₂ _∷_ (ap (λ (o : Output). take k (o .bytes)) square ∙ front (bytesOf (send (s .house .book i))) out k (sym (ap (λ (o : Output). o .answer) square) ∙ e)) (s .sent);
-            history = s .history;
-          };
-          way = inl (books.sends i u);
-        }
-      where
-        square : sendOn (h .words i) out ≡ putFront (bytesOf (send (s .house .book i))) out
-        square = ap (λ (w : List ℕ). sendOn w out) (s .words i u) ∙ send-on (s .house .book i) (sound-of s i u) out
+  -- each screen opened, on any slice of the one length
+  fresh-words : (ws : List ℕ) (i : ℕ) → length ws ≡ bookLong → i < n → openOn ws i n .words ≡ wordsOf (fresh i n)
+  unfolding openOn openStops
+  fresh-words ws i e u =
+      ap₂ (λ (c d : Bool). openOr ws (wordsOf (fresh i n)) (firstOf ((not c, refusal 11) ∷ (not d, refusal 2) ∷ [])) .words) (is-true (eqb (length ws) bookLong) (eq→eqb (length ws) bookLong e))
+      (is-true (inRange i n) (range-from i n lo hi u))
 
-    -- bytes that were sent are heard as the message that they are
-    heard-sent : {h : LentHouse} (s : Same n h) (i : ℕ) → i < n → (m : Message) → m ∈ s .house .sent → gossipOn (h .words i) (bytesOf m) ≡ lentOf (gossipStep (s .house .book i) m)
-    heard-sent {h} s i u m x =
-        ap (λ (w : List ℕ). gossipOn w (bytesOf m)) (s .words i u)
-        ∙ gossip-on (s .house .book i) (sound-of s i u) (bytesOf m)
-        ∙ ap (λ (c : Bool). lentOf (cond c (gossipStep (s .house .book i) (messageOf (bytesOf m))) (record { reply = refusal 1; book = s .house .book i }))) (is-true (wellFormed (bytesOf m)) (well m (fits-of s m x)))
-        ∙ ap (λ (y : Message). lentOf (gossipStep (s .house .book i) y)) (back m (fits-of s m x))
+  same : {h : LentHouse} → LentRun n h → Same n h
+  unfolding openLent openHouse
+  same (opened lent f) =
+      record {
+        house = openHouse n;
+        run = books.opened;
+        words = λ k u. fresh-words (lent k) k (f k u) u;
+        past = λ k l. refl;
+        sent = refl;
+        history = refl;
+      }
+  same (onward r s) = next (same r) s .same
 
-    next-gossip : {h : LentHouse} (s : Same n h) (i : ℕ) → i < n → (bytes : List ℕ) → bytes ∈ h .sent → Next s (lentGossip h i bytes)
-    unfolding lentGossip afterGossip
-    next-gossip {h} s i u bytes x = go (bytes-from (s .house .sent) bytes (subst (λ (l : List (List ℕ)). bytes ∈ l) (s .sent) x))
-      where
-        go : ((m : Message) × (m ∈ s .house .sent) × (bytes ≡ bytesOf m)) → Next s (lentGossip h i bytes)
-        go w =
-            let q = ap (gossipOn (h .words i)) (w .2) ∙ heard-sent s i u (w .0) (w .1) in
-            record {
-              same = record {
-                house = afterGossip (s .house) i (w .0);
-                run = books.onward (s .run) (books.arrives i u (w .0) (w .1));
-                words = put-words n (h .words) (s .house .book) (s .words) i (gossipOn (h .words i) bytes .words) ((gossipStep (s .house .book i) (w .0)) .book) (ap (λ (o : Lent). o .words) q);
-                past = put-past n (s .house .book) (s .past) i u ((gossipStep (s .house .book i) (w .0)) .book);
-                sent = s .sent;
-                history = s .history;
-              };
-              way = inl (books.arrives i u (w .0) (w .1));
-            }
+  -- what Permission allows was answered by the book that the slice holds
+  asked-book :
+      {h : LentHouse} (s : Same n h) (i : ℕ) → i < n → (bytes : List ℕ) → T (permits (questionOn (h .words i) bytes .reply))
+      → questionOn (h .words i) bytes .reply ≡ answerAt (s .house) i (promptIn (h .words i) bytes) (labelIn (h .words i) bytes)
+  asked-book {h} s i u bytes y =
+      go (readable (questionKind (b .screens)) bytes) refl
+      ∙ ap (λ (x : Book). (ask b (getD (lineOf (questionKind (x .screens)) bytes) 1 0) (stampAt 2 (lineOf (questionKind (x .screens)) bytes))) .reply) (sym (book-of s i u))
+    where
+      b : Book
+      b = s .house .book i
 
-    next : {h h′ : LentHouse} (s : Same n h) → LentStep n h h′ → Next s h′
-    next s (tap i u bytes) = next-tap s i u bytes
-    next s (question i u bytes) = next-question s i u bytes
-    next s (sends i u out k e) = next-send s i u out k e
-    next s (arrives i u bytes x) = next-gossip s i u bytes x
+      answered : Outcome
+      answered = ask b (getD (lineOf (questionKind (b .screens)) bytes) 1 0) (stampAt 2 (lineOf (questionKind (b .screens)) bytes))
 
-    -- each screen opened, on any slice of the one length
-    fresh-words : (ws : List ℕ) (i : ℕ) → length ws ≡ bookLong → i < n → openOn ws i n .words ≡ wordsOf (fresh i n)
-    unfolding openOn openStops
-    fresh-words ws i e u =
-        ap₂ (λ (c d : Bool). openOr ws (wordsOf (fresh i n)) (firstOf ((not c, refusal 11) ∷ (not d, refusal 2) ∷ [])) .words) (is-true (eqb (length ws) bookLong) (eq→eqb (length ws) bookLong e))
-        (is-true (inRange i n) (range-from i n lo hi u))
+      comes : (c : Bool) → readable (questionKind (b .screens)) bytes ≡ c → questionOn (h .words i) bytes .reply ≡ cond c answered (record { reply = refusal 1; book = b }) .reply
+      comes c e =
+          ap (λ (w : List ℕ). questionOn w bytes .reply) (s .words i u) ∙ ap (λ (o : Lent). o .reply) (question-on b (sound-of s i u) bytes)
+          ∙ ap (λ (d : Bool). cond d answered (record { reply = refusal 1; book = b }) .reply) e
 
-    same : {h : LentHouse} → LentRun n h → Same n h
-    unfolding openLent openHouse
-    same (opened lent f) =
-        record {
-          house = openHouse n;
-          run = books.opened;
-          words = λ k u. fresh-words (lent k) k (f k u) u;
-          past = λ k l. refl;
-          sent = refl;
-          history = refl;
-        }
-    same (onward r s) = next (same r) s .same
+      go : (c : Bool) → readable (questionKind (b .screens)) bytes ≡ c → questionOn (h .words i) bytes .reply ≡ answered .reply
+      go true e = comes true e
+      go false e = absurd (subst (λ (r : Reply). T (permits r)) (comes false e) y)
 
-    -- what Permission allows was answered by the book that the slice holds
-    asked-book :
-        {h : LentHouse} (s : Same n h) (i : ℕ) → i < n → (bytes : List ℕ) → T (permits (questionOn (h .words i) bytes .reply))
-        → questionOn (h .words i) bytes .reply ≡ answerAt (s .house) i (promptIn (h .words i) bytes) (labelIn (h .words i) bytes)
-    asked-book {h} s i u bytes y =
-        go (readable (questionKind (b .screens)) bytes) refl
-        ∙ ap (λ (x : Book). (ask b (getD (lineOf (questionKind (x .screens)) bytes) 1 0) (stampAt 2 (lineOf (questionKind (x .screens)) bytes))) .reply) (sym (book-of s i u))
-      where
-        b : Book
-        b = s .house .book i
+  pub lent-demand : {h : LentHouse} → LentRun n h → LentDemand n h
+  lent-demand {h} r = go (same r)
+    where
+      go : Same n h → LentDemand n h
+      go s =
+          record {
+            demand = subst (Demand n) (sym (held-same s)) (third-demand n lo hi (s .house) (s .run));
+            consent = subst (Consent n) (sym (held-same s)) (no-refused-consent n lo hi (s .house) (s .run));
+            books-sound = λ i u. subst (λ (w : List ℕ). T (lawful w)) (sym (s .words i u)) (sound-lawful (s .house .book i) (sound-of s i u));
+            steps = λ h′ st. way st (next s st);
+            refused-only = λ i u bytes x. sent i u bytes (bytes-from (s .house .sent) bytes (subst (λ (l : List (List ℕ)). bytes ∈ l) (s .sent) x));
+            asked = λ i u bytes y. asked-book s i u bytes y ∙ ap (λ (x : House). answerAt x i (promptIn (h .words i) bytes) (labelIn (h .words i) bytes)) (sym (held-same s));
+          }
+        where
+          way : {h′ : LentHouse} → LentStep n h h′ → Next s h′ → Step n (held n h) (held n h′) ⊎ (held n h ≡ held n h′)
+          way {h′} st w =
+              either (w .way) (λ x. inl (subst (λ (a : House). Step n a (held n h′)) (sym (held-same s)) (subst (Step n (s .house)) (sym (held-same (w .same))) x)))
+              (λ e. inr (held-same s ∙ e ∙ sym (held-same (w .same))))
 
-        answered : Outcome
-        answered = ask b (getD (lineOf (questionKind (b .screens)) bytes) 1 0) (stampAt 2 (lineOf (questionKind (b .screens)) bytes))
-
-        comes : (c : Bool) → readable (questionKind (b .screens)) bytes ≡ c → questionOn (h .words i) bytes .reply ≡ cond c answered (record { reply = refusal 1; book = b }) .reply
-        comes c e =
-            ap (λ (w : List ℕ). questionOn w bytes .reply) (s .words i u) ∙ ap (λ (o : Lent). o .reply) (question-on b (sound-of s i u) bytes)
-            ∙ ap (λ (d : Bool). cond d answered (record { reply = refusal 1; book = b }) .reply) e
-
-        go : (c : Bool) → readable (questionKind (b .screens)) bytes ≡ c → questionOn (h .words i) bytes .reply ≡ answered .reply
-        go true e = comes true e
-        go false e = absurd (subst (λ (r : Reply). T (permits r)) (comes false e) y)
-
-    pub lent-demand : {h : LentHouse} → LentRun n h → LentDemand n h
-    lent-demand {h} r = go (same r)
-      where
-        go : Same n h → LentDemand n h
-        go s =
-            record {
-              demand = subst (Demand n) (sym (held-same s)) (third-demand n lo hi (s .house) (s .run));
-              consent = subst (Consent n) (sym (held-same s)) (no-refused-consent n lo hi (s .house) (s .run));
-              books-sound = λ i u. subst (λ (w : List ℕ). T (lawful w)) (sym (s .words i u)) (sound-lawful (s .house .book i) (sound-of s i u));
-              steps = λ h′ st. way st (next s st);
-              refused-only = λ i u bytes x. sent i u bytes (bytes-from (s .house .sent) bytes (subst (λ (l : List (List ℕ)). bytes ∈ l) (s .sent) x));
-              asked = λ i u bytes y. asked-book s i u bytes y ∙ ap (λ (x : House). answerAt x i (promptIn (h .words i) bytes) (labelIn (h .words i) bytes)) (sym (held-same s));
-            }
-          where
-            way : {h′ : LentHouse} → LentStep n h h′ → Next s h′ → Step n (held n h) (held n h′) ⊎ (held n h ≡ held n h′)
-            way {h′} st w =
-                either (w .way) (λ x. inl (subst (λ (a : House). Step n a (held n h′)) (sym (held-same s)) (subst (Step n (s .house)) (sym (held-same (w .same))) x)))
-                (λ e. inr (held-same s ∙ e ∙ sym (held-same (w .same))))
-
-            sent : (i : ℕ) → i < n → (bytes : List ℕ) → ((m : Message) × (m ∈ s .house .sent) × (bytes ≡ bytesOf m)) → Answered i (messageOf bytes) (gossipOn (h .words i) bytes .reply)
-            sent i u bytes w =
-                subst (λ (x : List ℕ). Answered i (messageOf x) (gossipOn (h .words i) x .reply)) (sym (w .2))
-                (subst (λ (y : Message). Answered i y (gossipOn (h .words i) (bytesOf (w .0)) .reply)) (sym (back (w .0) (fits-of s (w .0) (w .1))))
-                (subst (λ (o : Lent). Answered i (w .0) (o .reply)) (sym (heard-sent s i u (w .0) (w .1))) (third-demand n lo hi (s .house) (s .run) .refused-only i u (w .0) (w .1))))
+          sent : (i : ℕ) → i < n → (bytes : List ℕ) → ((m : Message) × (m ∈ s .house .sent) × (bytes ≡ bytesOf m)) → Answered i (messageOf bytes) (gossipOn (h .words i) bytes .reply)
+          sent i u bytes w =
+              subst (λ (x : List ℕ). Answered i (messageOf x) (gossipOn (h .words i) x .reply)) (sym (w .2))
+              (subst (λ (y : Message). Answered i y (gossipOn (h .words i) (bytesOf (w .0)) .reply)) (sym (message-bytes (w .0) (fits-of s (w .0) (w .1))))
+              (subst (λ (o : Lent). Answered i (w .0) (o .reply)) (sym (heard-sent s i u (w .0) (w .1))) (third-demand n lo hi (s .house) (s .run) .refused-only i u (w .0) (w .1))))
