@@ -1,1 +1,18 @@
 // What replicates: records, what a screen knows of them, the log. Knows nothing of what a record's body means.
+ghost use mathlib.Core.Path.{_≡_};
+ghost use Rattle.ledger.specs.Message.{inRange};
+
+// The fewest and the most screens of a house.
+const FEWEST: u64 = 2;
+
+const MOST: u64 = 8;
+
+// N from 2 to 8, and the screen's number below it.
+pub fn in_range(i: u64, n: u64) -> bool
+    ensures { λ r. ⌜ r ≡ inRange i n ⌝ }
+{
+    match n {
+        FEWEST..=MOST => i < n,
+        _ => false,
+    }
+}

@@ -1,5 +1,6 @@
 // Requests: what a screen is sent, each kind with its reader and its writer. A gossip message is a head and then records.
 use fields::read_fields;
+use ledger::in_range;
 use stamp::Parts;
 use stamp::part_of;
 use stamp::parts_at;
@@ -33,7 +34,6 @@ ghost use Rattle.lists.specs.Tests.{all};
 ghost use Rattle.stamp.specs.Parts.{listOf};
 ghost use Rattle.stamp.specs.Stamp.{part, stampFits};
 ghost use Rattle.ledger.specs.Limits.{logRoom};
-ghost use Rattle.ledger.specs.Message.{inRange};
 ghost use Rattle.wire.specs.Kinds.{tapAt, headKind, recordKind, tapKind, questionKind, openKind, sendKind};
 ghost use Rattle.wire.specs.Read.{readAs};
 ghost use Rattle.wire.specs.Said.{figures};
@@ -94,11 +94,7 @@ const TAP_LABEL: usize = 6;
 
 const QUESTION_LABEL: usize = 2;
 
-// How many screens a house has, how many records a message, and where numbers start.
-const FEWEST: u64 = 2;
-
-const MOST: u64 = 8;
-
+// How many records a message has at most, and where numbers start.
 const LOG_ROOM: u64 = 256;
 
 const FIRST_NUMBER: u64 = 1;
@@ -114,16 +110,6 @@ fn tap_at(line: &[u64], at: usize) -> Tap
         prompt: line[at + 2],
         showing: line[at + 3],
         answer: line[at + 4],
-    }
-}
-
-// N from 2 to 8, and the screen's number below it.
-fn in_range(i: u64, n: u64) -> bool
-    ensures { λ r. ⌜ r ≡ inRange i n ⌝ }
-{
-    match n {
-        FEWEST..=MOST => i < n,
-        _ => false,
     }
 }
 

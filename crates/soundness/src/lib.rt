@@ -12,6 +12,7 @@ use layout::SCREEN;
 use layout::SCREENS;
 use layout::TABLE;
 use layout::VALUE;
+use ledger::in_range;
 use log::BODY;
 use log::ROW;
 use log::all_held;
@@ -42,7 +43,6 @@ ghost use Rattle.stamp.specs.Stamp.{atMost, total, stampFits};
 ghost use Rattle.tally.specs.Limits.{countLimit};
 ghost use Rattle.tally.specs.Tap.{bodyFits};
 ghost use Rattle.ledger.specs.Log.{waitingIn};
-ghost use Rattle.ledger.specs.Message.{inRange};
 ghost use Rattle.ledger.specs.Record.{isApplied};
 ghost use Rattle.log.specs.Lowest.{lowestFrom};
 ghost use Rattle.log.specs.Region.{rowLong, recordAt, recordsAt};
@@ -53,25 +53,13 @@ ghost use Rattle.layout.specs.Words.{shaped, lawful};
 ghost use Rattle.soundness.specs.Clauses.{fitRules, withinRules, logRules, countedRules, regionRules, pieceRules};
 ghost use Rattle.soundness.specs.Cut.{Places, Numbers, cutRules};
 
-// The fewest and the most screens of a house.
-const FEWEST: u64 = 2;
-
+// The most screens of a house.
 const MOST: u64 = 8;
 
 // Records in a log, and records that a book may know.
 const LOG_ROOM: u64 = 256;
 
 const BOOK_ROOM: u64 = 1024;
-
-// N from 2 to 8, and the screen's number below it.
-fn in_range(i: u64, n: u64) -> bool
-    ensures { λ r. ⌜ r ≡ inRange i n ⌝ }
-{
-    match n {
-        FEWEST..=MOST => i < n,
-        _ => false,
-    }
-}
 
 // Whether the part from a to e is zero from its k-th word on.
 fn zero_past(b: &[u64], a: usize, e: usize, k: usize) -> bool

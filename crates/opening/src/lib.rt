@@ -1,0 +1,47 @@
+// Open: the fresh book of screen i of N on a lent slice.
+use layout::BOOK;
+use layout::SCREEN;
+use layout::SCREENS;
+use ledger::in_range;
+ghost use mathlib.Core.Path.{_≡_};
+ghost use lib.ListN.{length, replicate};
+ghost use Rattle.answers.specs.Lent.{openOn};
+ghost use Rattle.opening.specs.Opening.{Opens};
+
+// Whether the book is open, or the refusal's number.
+pub enum Opening {
+    Opened,
+    Refused(u64),
+}
+
+// Another N than 2 to 8 or i not below it; the lent book is of wrong length.
+const RANGE: u64 = 2;
+
+const LENGTH: u64 = 11;
+
+// Every word zero.
+fn clear(b: &mut [u64])
+    ensures { λ _. ⌜ now (b .exit) ≡ replicate (length (now (b .entry))) 0 ⌝ }
+{
+    let mut k = 0;
+    while k < b.len() {
+        b[k] = 0;
+        k += 1;
+    }
+}
+
+// The fresh book of screen i of n.
+pub fn open_book(b: &mut [u64], i: u64, n: u64) -> Opening
+    ensures { λ r. ⌜ Opens (openOn (now (b .entry)) i n) r (now (b .exit)) ⌝ }
+{
+    if b.len() != BOOK {
+        return Opening::Refused(LENGTH);
+    }
+    if !in_range(i, n) {
+        return Opening::Refused(RANGE);
+    }
+    clear(b);
+    b[SCREEN] = i;
+    b[SCREENS] = n;
+    Opening::Opened
+}
