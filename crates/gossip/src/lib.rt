@@ -53,7 +53,13 @@ fn in_order(msg: &[u8], count: usize, n: usize, m: Parts) -> bool
     let mut i = 0;
     while i < count {
         let next = record_at(msg, i, n, m);
-        let Said::Record { origin, number, label: _, tap: _ } = next else {
+        let Said::Record {
+            origin,
+            number,
+            label: _,
+            tap: _,
+        } = next
+        else {
             return false;
         };
         if !comes_before(k, q, origin, number) {
@@ -74,7 +80,13 @@ pub fn read_gossip(msg: &[u8]) -> Said
         return Said::Unreadable(BAD);
     }
     let head = read_head(&msg[0..HEAD_SIZE]);
-    let Said::Head { sender, screens, count, stamp } = head else {
+    let Said::Head {
+        sender,
+        screens,
+        count,
+        stamp,
+    } = head
+    else {
         return Said::Unreadable(BAD);
     };
     let n = count as usize;
@@ -84,7 +96,12 @@ pub fn read_gossip(msg: &[u8]) -> Said
     if !in_order(msg, n, screens as usize, stamp) {
         return Said::Unreadable(BAD);
     }
-    Said::Head { sender: sender, screens: screens, count: count, stamp: stamp }
+    Said::Head {
+        sender: sender,
+        screens: screens,
+        count: count,
+        stamp: stamp,
+    }
 }
 
 fn origin_of(part: &[u8]) -> u64
@@ -134,7 +151,13 @@ pub fn records_of(msg: &[u8], origin: u8) -> &[u8]
     ensures { λ r. ⌜ (r .ptr .0 ≡ msg .entry .ptr .0) × (r .ptr .1 ≡ msg .entry .ptr .1 + startOf origin (now (msg .entry))) ⌝ }
 {
     let head = read_gossip(msg);
-    let Said::Head { sender: _, screens: _, count, stamp: _ } = head else {
+    let Said::Head {
+        sender: _,
+        screens: _,
+        count,
+        stamp: _,
+    } = head
+    else {
         return &msg[msg.len()..];
     };
     let n = count as usize;
