@@ -1,9 +1,12 @@
 -- `gossip::record_at` meets its contract. Assumes nothing.
-use Prim.Native.Nat.{_+_, _-_, _*_}
+use Prim.Native.Nat.{ℕ, _+_, _-_, _*_}
 use native.Mathlib.Omega.{arith}
-use mathlib.Core.Path.{_≡_}
+use mathlib.Core.Path.{_≡_, ap, _∙_}
 use borrow.Author.Needs.{needs}
 use Rattle.lists.specs.Part.{mid}
+use Rattle.stamp.specs.Parts.{listOf}
+use Rattle.wire.specs.Kinds.{recordKind}
+use Rattle.wire.specs.Read.{readAs}
 use Rattle.gossip.specs.Message.{headLong, recordLong}
 use Rattle.gossip.specs.Find.{partAt}
 use Rattle.gossip.proofs.record_at.Statement.{statement}
@@ -12,9 +15,10 @@ use Rattle.gossip.proofs.record_at.Tie as tie
 returns : tie.Need-returns
 unfolding partAt mid
 returns c =
-    let at = headLong + c .before .before .before .args .i * recordLong in
+    let s = c .before .before .before .args in
+    let at = headLong + s .i * recordLong in
     let e : at + recordLong - at ≡ recordLong = omega arith in
-    rw (c .read-record .ensures, e)
+    c .read-record .ensures ∙ ap (λ (k : ℕ). readAs (recordKind (s .n) (listOf (s .m))) (mid at k (s .msg .now))) e
 
 pub record-at-spec : {M : Type 1} → statement M
 record-at-spec =
