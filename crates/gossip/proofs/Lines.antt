@@ -1,25 +1,23 @@
 -- What `read_gossip` has settled where it returns. Assumes nothing.
 use Prim.Native.Nat.{ℕ, _+_, _*_, _≤_, _<_}
 use native.Mathlib.Omega.{arith}
-use mathlib.Core.Path.{_≡_, refl, sym, ap, _∙_}
-use mathlib.Core.Bool.{Bool, true, false, _&&_}
-use mathlib.Core.List.{List, [], _∷_}
-use borrow.Author.Tests.{eq-eqb, ne-eqb}
-use lib.Dec.{T, leb, leb→le}
+use mathlib.Core.Path.{_≡_, refl, ap}
+use mathlib.Core.Bool.{true, false}
+use mathlib.Core.List.{List}
+use lib.Dec.{leb→le}
 use lib.ListN.{length, getD, take, length-take}
-use Rattle.lists.specs.Facts.{and-l, and-r, is-true, is-false, not-from}
+use borrow.Author.Tests.{eq-eqb, ne-eqb}
+use Rattle.lists.specs.Facts.{is-true, is-false, not-from}
 use Rattle.stamp.specs.declared.Parts.{Parts}
 use Rattle.stamp.specs.Parts.{listOf, partsAt}
-use Rattle.stamp.specs.Stamp.{stampFits}
 use Rattle.ledger.specs.Limits.{logRoom}
-use Rattle.ledger.specs.Message.{inRange}
-use Rattle.wire.specs.Kinds.{headKind, recordKind, shaped, stampAt}
+use Rattle.wire.specs.Kinds.{headKind, recordKind}
 use Rattle.wire.specs.Laws.{length-readable, lawful-head}
 use Rattle.wire.specs.Read.{lineOf, readable, readAs}
 use Rattle.wire.specs.declared.Said.the-variants as said
-use Rattle.gossip.specs.Message.{headLong, recordLong, headLine, kindIn, partsOf, inOrder, wellFormed, readGossip}
+use Rattle.gossip.specs.Message.{headLong, recordLong, partsOf, inOrder, wellFormed, readGossip}
 use Rattle.gossip.specs.Parts.{head-rules, head-told}
-use Rattle.gossip.specs.Told.{head-in, head-kind, head-count}
+use Rattle.gossip.specs.Told.{head-in}
 
 pub headless : (bytes : List ℕ) → readable headKind (take headLong bytes) ≡ false → said.Unreadable 1 ≡ readGossip bytes
 unfolding readGossip wellFormed

@@ -2,30 +2,30 @@
 --     record-line, line-record      the line for a record holds that record, and a line that was read is the line for what it holds
 --     record-writable               the line for a record that keeps its rules is taken by the writer
 --     head-stamp, head-writable     so for the line of a head
-use Prim.Native.Nat.{ℕ, _+_, _≤_, _<_, _^_}
+use Prim.Native.Nat.{ℕ, _≤_, _<_, _^_}
 use native.Mathlib.Omega.{arith}
 use mathlib.Core.Path.{_≡_, refl, sym, ap, subst, _∙_}
-use mathlib.Core.Bool.{Bool, true, false, _&&_}
+use mathlib.Core.Bool.{true, _&&_}
 use mathlib.Core.List.{List, [], _∷_, _++_}
-use lib.Dec.{T, leb, ltb, eqb, leb→le, ltb→lt, lt→ltb, eqb→eq}
-use lib.ListN.{length, getD, take}
+use lib.Dec.{T, leb, ltb, leb→le, ltb→lt, lt→ltb, eqb→eq}
+use lib.ListN.{length, getD}
 use lib.Seq.{take-all}
 use Rattle.lists.specs.Facts.{and-l, and-r, both, all-at, is-true, every-place}
-use Rattle.lists.specs.Tests.{all, every}
+use Rattle.lists.specs.Tests.{every}
 use Rattle.stamp.specs.Limits.{parts, word}
 use Rattle.stamp.specs.Parts.{partsAt, listOf}
 use Rattle.stamp.specs.PartsLaws.{list-parts}
 use Rattle.stamp.specs.Stamp.{Stamp, part, stampRules, stampFits}
 use Rattle.stamp.specs.declared.Parts.{Parts}
-use Rattle.tally.specs.Tap.{fields, tapFits, tapOf, wordOf, bodyFits}
+use Rattle.fields.specs.Fields.{fieldsFit}
+use Rattle.tally.specs.Tap.{fields, tapFits, tapOf, bodyFits}
 use Rattle.tally.specs.WordLaws.{fits-bits, word-tap, tap-word, body-tap}
 use Rattle.tally.specs.declared.Tap.{Tap}
 use Rattle.ledger.specs.Limits.{fewest, most, logRoom}
 use Rattle.ledger.specs.Message.{Message, inRange, messageRules, messageFits}
 use Rattle.ledger.specs.Record.{Record, recordRules, recordFits, knows, isKnown}
-use Rattle.fields.specs.Fields.{fieldsFit}
 use Rattle.wire.specs.Kinds.{Kind, headKind, recordKind, recordIn, stampAt, tapAt, stampBody, tapBody}
-use Rattle.wire.specs.Laws.{Lawful, figures-read, lawful-record, lawful-head}
+use Rattle.wire.specs.Laws.{Lawful, figures-read, lawful-record}
 use Rattle.wire.specs.Read.{lineOf, readable, readAs}
 use Rattle.wire.specs.Said.{figures}
 use Rattle.wire.specs.Write.{writable}

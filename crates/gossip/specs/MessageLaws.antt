@@ -8,20 +8,18 @@
 --     bytes-of-bytes   every element of a writing is a byte, length-bytes-of   its length is fixed by the number of records
 --     record-held      record i of a well formed message is readable, and holds the message's record i
 use Prim.Native.Nat.{ℕ, zero, suc, _+_, _*_, _<_}
-use native.Mathlib.Omega.{arith}
 use mathlib.Core.Path.{_≡_, refl, sym, ap, ap₂, subst, _∙_}
 use mathlib.Core.Bool.{Bool, _&&_}
 use mathlib.Core.List.{List, [], _∷_, _++_, map, append-nil}
 use lib.Dec.{T, leb, eqb, eqb-refl}
 use lib.ListN.{length, getD, take, drop, length-append, length-map, List·getD-map}
 use lib.Seq.{take-at, drop-at}
-use Rattle.lists.specs.Facts.{and-l, and-r, both, all-at, Each, done, _also_, all-from, every-getD, same-test}
+use Rattle.lists.specs.Facts.{and-l, and-r, both, all-at, done, _also_, all-from, every-getD, same-test}
 use Rattle.lists.specs.Order.{rising, sameKey}
 use Rattle.lists.specs.Rows.{rows, flat}
 use Rattle.lists.specs.RowLaws.{Wide, rows-flat, length-flat}
 use Rattle.lists.specs.Sorted.{sameKey→≡, sameKey-refl}
 use Rattle.lists.specs.Tests.{every}
-use Rattle.stamp.specs.Stamp.{Stamp, stampFits}
 use Rattle.bigendian.specs.Number.{Bytes}
 use Rattle.bigendian.specs.Laws.{bytes-append, bytes-take, bytes-drop}
 use Rattle.fields.specs.Laws.{bytes-write}

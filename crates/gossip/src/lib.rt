@@ -8,12 +8,11 @@ use stamp::Parts;
 use wire::BAD;
 use wire::Said;
 ghost use mathlib.Core.Path.{_≡_};
-ghost use Prim.Native.Nat.{_+_, _*_, _≤_};
-ghost use lib.Dec.{ltb};
-ghost use lib.ListN.{length, getD};
-ghost use Rattle.stamp.specs.Parts.{listOf};
-ghost use Rattle.lists.specs.Order.{keyBefore};
 ghost use mathlib.Core.List.{_∷_, []};
+ghost use Prim.Native.Nat.{_+_, _*_, _≤_};
+ghost use lib.ListN.{length};
+ghost use Rattle.lists.specs.Order.{keyBefore};
+ghost use Rattle.stamp.specs.Parts.{listOf};
 ghost use Rattle.wire.specs.Kinds.{recordKind};
 ghost use Rattle.wire.specs.Read.{readAs};
 ghost use Rattle.gossip.specs.Message.{headLong, recordLong, partsOf, inOrder, readGossip};
@@ -42,8 +41,8 @@ fn comes_before(k: u64, q: u64, o: u64, r: u64) -> bool
     k < o
 }
 
-// Whether the records keep their rules and rise: each is compared with the one before it. Numbers start at 1, so that no first
-// record comes before number 0 of origin 0.
+// Whether the records keep their rules and rise: each is compared with the one before it. Numbers start at 1, so every record
+// comes after number 0 of origin 0.
 fn in_order(msg: &[u8], count: usize, n: usize, m: Parts) -> bool
     requires { ⌜ headLong + count * recordLong ≤ length (now msg) ⌝ }
     ensures { λ r. ⌜ r ≡ inOrder (recordKind n (listOf m)) (partsOf count (now (msg .entry))) ⌝ }
