@@ -1,0 +1,51 @@
+-- How many bytes the next message of standard input has, given what is read so far. Assumes nothing.
+use Prim.Native.Nat.{ℕ, _+_, _*_}
+use mathlib.Core.Bool.{Bool, _||_, cond}
+use mathlib.Core.List.{List, [], _∷_}
+use lib.Dec.{eqb, ltb}
+use lib.ListN.{length}
+use Rattle.lists.specs.Part.{mid}
+use Rattle.bigendian.specs.Number.{numberOf}
+use Rattle.ledger.specs.Limits.{logRoom}
+use Rattle.wire.specs.Kinds.{bodyOf}
+use Rattle.wire.specs.declared.Body.{Body}
+use Rattle.wire.specs.declared.Body.the-variants.{Long, Bad}
+use Rattle.frames.specs.declared.Frame.{Frame}
+use Rattle.frames.specs.declared.Frame.the-variants.{More, Whole, Stop}
+
+-- one kind 11, then kinds 1, 3, 4 and 12: any other is unexpected (a record's too)
+unfoldable pub expected : Bool → ℕ → Bool
+expected opened k = cond opened (eqb k 1 || (eqb k 3 || (eqb k 4 || eqb k 12))) (eqb k 11)
+
+-- a head is kind, sender, N and then its record count, in two bytes
+unfoldable pub countIn : List ℕ → ℕ
+countIn read = numberOf (mid 3 2 read)
+
+abbrev pub countEnd : ℕ
+countEnd = 5
+
+-- a head has 37 bytes, a record 47
+abbrev pub headLong : ℕ
+headLong = 37
+
+abbrev pub recordLong : ℕ
+recordLong = 47
+
+-- a gossip message is a head and then exactly count records, at most 256
+unfoldable pub gossipFrame : List ℕ → Frame
+gossipFrame read =
+    cond (ltb (length read) countEnd) (More countEnd)
+    (cond (ltb logRoom (countIn read)) Stop (Whole (headLong + countIn read * recordLong)))
+
+-- of every other kind: one byte of kind, and the kind fixes the body's length
+abbrev pub bodyFrame : Body → Frame
+bodyFrame (Long n) = Whole (1 + n)
+bodyFrame (Bad r) = Stop
+
+abbrev pub kindFrame : ℕ → List ℕ → Frame
+kindFrame k read = cond (eqb k 1) (gossipFrame read) (bodyFrame (bodyOf k))
+
+-- nothing read tells nothing; an unexpected kind and a count above 256 stop the reading
+unfoldable pub frameOf : List ℕ → Bool → Frame
+frameOf [] opened = More 1
+frameOf (k ∷ rest) opened = cond (expected opened k) (kindFrame k (k ∷ rest)) Stop
