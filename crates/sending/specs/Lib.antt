@@ -1,0 +1,3 @@
+pub mod Lines
+pub mod Long
+pub mod Parts
