@@ -1,13 +1,12 @@
 -- What the writers leave of a sound book's lines, and how the parts of its message come together. Assumes nothing.
 use Prim.Native.Nat.{ℕ, _+_, _≤_, _<_}
 use native.Mathlib.Omega.{arith}
-use mathlib.Core.Path.{_≡_, refl, sym, ap, ap₂, subst, _∙_}
-use mathlib.Core.Bool.{Bool, cond}
-use mathlib.Core.List.{List, [], _∷_, _++_, append-nil}
+use mathlib.Core.Path.{_≡_, sym, ap, ap₂, subst, _∙_}
+use mathlib.Core.List.{List, _∷_, _++_, append-nil}
 use borrow.Author.Tests.{le-ltb, lt-ltb}
-use lib.Dec.{T, ltb}
+use lib.Dec.{T}
 use lib.ListN.{length, getD, drop, drop-of-length-le}
-use Rattle.lists.specs.Facts.{_∈_, is-true}
+use Rattle.lists.specs.Facts.{is-true}
 use Rattle.lists.specs.Part.{patch}
 use Rattle.stamp.specs.Parts.{partsAt, listOf}
 use Rattle.stamp.specs.PartsLaws.{list-parts}
@@ -21,7 +20,7 @@ use Rattle.log.specs.Region.{rowLong, recordAt}
 use Rattle.wire.specs.Kinds.{Kind, size, headKind, recordKind}
 use Rattle.wire.specs.Returns.{meets}
 use Rattle.wire.specs.Said.{figures}
-use Rattle.wire.specs.Write.{Meets, Output, refuse, writable, written, writeAs}
+use Rattle.wire.specs.Write.{Meets, writable, written, writeAs}
 use Rattle.wire.specs.declared.Said.the-variants as said
 use Rattle.wire.specs.declared.Written.{Written}
 use Rattle.wire.specs.declared.Written.the-variants.{Wrote, Refused}
@@ -64,7 +63,7 @@ module _ (row : List ℕ) (n : ℕ) (m label : Parts) (tap : Tap) (long : length
       ∙ append-nil (written (recordKind n (listOf m)) (lineFor (recordAt row)))
 
 module _ (ws : List ℕ) (h : T (lawful ws)) where
-  pub sent-fits : T (messageFits bodyFits (send (bookOf ws)))
+  sent-fits : T (messageFits bodyFits (send (bookOf ws)))
   sent-fits = send-fits (bookOf ws) (lawful-sound ws h)
 
   pub words-long : length ws ≡ bookLong
@@ -127,10 +126,10 @@ module _ (ws : List ℕ) (h : T (lawful ws)) where
 
   -- the head and then the records
   pub sent-whole :
-      (out mid left : List ℕ) → mid ≡ withHead (send (bookOf ws)) out → left ≡ withRecords (send (bookOf ws)) ((bookOf ws) .log) headLong (startOf (length ((bookOf ws) .log))) mid
+      (out headed left : List ℕ) → headed ≡ withHead (send (bookOf ws)) out → left ≡ withRecords (send (bookOf ws)) ((bookOf ws) .log) headLong (startOf (length ((bookOf ws) .log))) headed
       → left ≡ bytesOf (send (bookOf ws)) ++ drop (length (bytesOf (send (bookOf ws)))) out
   unfolding send
-  sent-whole out mid left e f =
+  sent-whole out headed left e f =
       f
       ∙ ap (withRecords (send (bookOf ws)) ((bookOf ws) .log) headLong (startOf (length ((bookOf ws) .log)))) e
       ∙ whole-message (send (bookOf ws)) sent-fits out

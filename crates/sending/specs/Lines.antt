@@ -1,13 +1,13 @@
 -- Laws: the lines of a message that keeps the field rules are those that the writers take. Assumes nothing.
 --     head-writable     the head's line
 --     record-writable   the line of each record
-use Prim.Native.Nat.{ℕ, _+_, _*_, _≤_, _<_, _^_}
+use Prim.Native.Nat.{ℕ, _≤_, _<_, _^_}
 use native.Mathlib.Omega.{arith}
-use mathlib.Core.Path.{_≡_, refl, sym, ap, ap₂, subst, _∙_}
-use mathlib.Core.Bool.{Bool, true, _&&_}
+use mathlib.Core.Path.{_≡_, sym, subst, _∙_}
+use mathlib.Core.Bool.{true, _&&_}
 use mathlib.Core.List.{List, [], _∷_, _++_, append-nil}
-use lib.Dec.{T, leb, ltb, eqb, leb→le, lt→ltb, ltb→lt}
-use lib.ListN.{length, getD, take, drop, replicate}
+use lib.Dec.{T, leb, ltb, leb→le, lt→ltb}
+use lib.ListN.{length, getD, replicate}
 use lib.Seq.{take-all}
 use Rattle.lists.specs.Facts.{_∈_, all-at, and-l, and-r, both, every-at}
 use Rattle.lists.specs.Tests.{every}
@@ -15,7 +15,7 @@ use Rattle.stamp.specs.Laws.{fits}
 use Rattle.stamp.specs.Limits.{parts, word}
 use Rattle.stamp.specs.Parts.{partsAt, listOf}
 use Rattle.stamp.specs.PartsLaws.{list-parts}
-use Rattle.stamp.specs.Stamp.{Stamp, part, stampFits, stampRules}
+use Rattle.stamp.specs.Stamp.{Stamp, stampFits, stampRules}
 use Rattle.stamp.specs.declared.Parts.{Parts}
 use Rattle.tally.specs.Tap.{fields, tapOf, tapFits, wordOf, bodyFits, FitsBits}
 use Rattle.tally.specs.WordLaws.{fits-bits, body-tap, word-tap}
@@ -26,7 +26,7 @@ use Rattle.ledger.specs.Message.{Message, messageFits, messageRules, inRange}
 use Rattle.ledger.specs.Record.{Record, recordFits, recordRules, isKnown}
 use Rattle.ledger.specs.RecordLaws.{Obeys, obeys, known-le}
 use Rattle.fields.specs.Fields.{fieldsFit}
-use Rattle.wire.specs.Kinds.{headKind, recordKind, widths, stampBody, tapBody}
+use Rattle.wire.specs.Kinds.{widths, headKind, recordKind, stampBody, tapBody}
 use Rattle.wire.specs.Write.{writable}
 use Rattle.gossip.specs.Message.{headOf, lineFor}
 
@@ -79,26 +79,24 @@ module _ (m : Message) (h : T (messageFits bodyFits m)) where
   unfolding messageFits
   rule k = all-at (messageRules bodyFits m) k h
 
-  screens-few : m .screens ≤ 8
-  unfolding parts
+  screens-few : m .screens ≤ parts
   screens-few = range-parts (m .sender) (m .screens) (rule 0)
 
-  sender-small : m .sender < 256
-  sender-small = omega (arith, range-me (m .sender) (m .screens) (rule 0), screens-few)
+  sender-in : m .sender < m .screens
+  sender-in = range-me (m .sender) (m .screens) (rule 0)
 
-  pub records-few : length (m .records) ≤ 256
-  unfolding logRoom
+  records-few : length (m .records) ≤ logRoom
   records-few = leb→le (length (m .records)) logRoom (rule 2)
 
-  pub stamp-parts : listOf (partsAt 0 (m .stamp)) ≡ m .stamp
+  stamp-parts : listOf (partsAt 0 (m .stamp)) ≡ m .stamp
   stamp-parts = eight-parts (m .stamp) (fits (m .screens) (m .stamp) (rule 1) .long)
 
-  head-fit : T (fieldsFit (1 ∷ 1 ∷ 1 ∷ 2 ∷ stampBody) (headOf m))
-  unfolding headOf
+  head-fit : T (fieldsFit (widths headKind) (headOf m))
+  unfolding headKind headOf parts logRoom
   head-fit =
       let s : T (fieldsFit stampBody (m .stamp)) = subst (λ (l : List ℕ). T (fieldsFit stampBody l)) (append-nil (m .stamp)) (stamp-fit (m .screens) (m .stamp) [] [] (rule 1) tt) in
       wide 1 1 (1 ∷ 1 ∷ 2 ∷ stampBody) (m .sender ∷ m .screens ∷ length (m .records) ∷ m .stamp) (omega arith)
-      (wide 1 (m .sender) (1 ∷ 2 ∷ stampBody) (m .screens ∷ length (m .records) ∷ m .stamp) (omega (arith, sender-small))
+      (wide 1 (m .sender) (1 ∷ 2 ∷ stampBody) (m .screens ∷ length (m .records) ∷ m .stamp) (omega (arith, sender-in, screens-few))
       (wide 1 (m .screens) (2 ∷ stampBody) (length (m .records) ∷ m .stamp) (omega (arith, screens-few))
       (wide 2 (length (m .records)) stampBody (m .stamp) (omega (arith, records-few)) s)))
 
@@ -111,7 +109,7 @@ module _ (m : Message) (h : T (messageFits bodyFits m)) where
 
   pub head-writable : T (writable headKind (headOf m))
   unfolding writable headKind headOf
-  head-writable = both (fieldsFit (1 ∷ 1 ∷ 1 ∷ 2 ∷ stampBody) (headOf m)) (headKind .rules (headOf m)) head-fit head-rules
+  head-writable = both (fieldsFit (widths headKind) (headOf m)) (headKind .rules (headOf m)) head-fit head-rules
 
   module _ (r : Record) (i : r ∈ m .records) where
     fit : T (recordFits bodyFits (m .screens) r)
@@ -126,19 +124,18 @@ module _ (m : Message) (h : T (messageFits bodyFits m)) where
     tap-kept : T (tapFits (tapOf (r .body)))
     tap-kept = body-tap (r .body) (kept .body-fits)
 
-    number-small : r .number < 4294967296
-    unfolding word
+    number-small : r .number < word
     number-small = omega (arith, known-le (m .stamp) r known, fits (m .screens) (m .stamp) (rule 1) .words (r .origin))
 
-    pub label-parts : listOf (partsAt 0 (r .label)) ≡ r .label
+    label-parts : listOf (partsAt 0 (r .label)) ≡ r .label
     label-parts = eight-parts (r .label) (kept .label-fits .long)
 
     label-fit : T (stampFits (m .screens) (r .label))
     unfolding recordFits
     label-fit = all-at (recordRules bodyFits (m .screens) r) 3 fit
 
-    record-fit : T (fieldsFit (1 ∷ 1 ∷ 4 ∷ stampBody ++ tapBody) (lineFor r))
-    unfolding lineFor
+    record-fit : T (fieldsFit (widths (recordKind (m .screens) (m .stamp))) (lineFor r))
+    unfolding recordKind lineFor parts word
     record-fit =
         let l = stamp-fit (m .screens) (r .label) tapBody (fields (tapOf (r .body))) label-fit (tap-fit (tapOf (r .body)) (fits-bits (tapOf (r .body)) tap-kept)) in
         wide 1 2 (1 ∷ 4 ∷ stampBody ++ tapBody) (r .origin ∷ r .number ∷ r .label ++ fields (tapOf (r .body))) (omega arith)
@@ -155,4 +152,4 @@ module _ (m : Message) (h : T (messageFits bodyFits m)) where
 
     pub record-writable : T (writable (recordKind (m .screens) (m .stamp)) (lineFor r))
     unfolding writable recordKind lineFor
-    record-writable = both (fieldsFit (1 ∷ 1 ∷ 4 ∷ stampBody ++ tapBody) (lineFor r)) (recordKind (m .screens) (m .stamp) .rules (lineFor r)) record-fit record-rules
+    record-writable = both (fieldsFit (widths (recordKind (m .screens) (m .stamp))) (lineFor r)) (recordKind (m .screens) (m .stamp) .rules (lineFor r)) record-fit record-rules

@@ -3,10 +3,10 @@
 --     whole-message    the head and then the records are the message
 --     next-record      one record more
 --     no-record        past the last record
-use Prim.Native.Nat.{ℕ, suc, _+_, _*_, _≤_, _<_}
+use Prim.Native.Nat.{ℕ, _+_, _*_, _≤_, _<_}
 use native.Mathlib.Numerals.{add-one}
 use native.Mathlib.Omega.{arith}
-use mathlib.Core.Path.{_≡_, refl, sym, ap, ap₂, subst, _∙_}
+use mathlib.Core.Path.{_≡_, sym, ap, ap₂, _∙_}
 use mathlib.Core.List.{List, [], _∷_, _++_, map, append-assoc}
 use lib.Dec.{T}
 use lib.ListN.{length, getD, take, drop, length-append, length-map, drop-of-length-le, take-append-drop}
@@ -31,7 +31,7 @@ wide-records f [] h = tt
 wide-records f (r ∷ rs) h = (h r here, wide-records f rs (λ x i. h x (there i)))
 
 module _ (m : Message) (h : T (messageFits bodyFits m)) where
-  pub head-long : length (written headKind (headOf m)) ≡ headLong
+  head-long : length (written headKind (headOf m)) ≡ headLong
   unfolding headKind
   head-long = length-written headKind (headOf m) (head-writable m h)
 

@@ -1,7 +1,7 @@
 -- A message at the front of an output, part by part: the head, then the records behind it. Assumes nothing.
 use Prim.Native.Nat.{ℕ, _+_, _*_}
 use mathlib.Core.List.{List, _++_, map}
-use lib.ListN.{length, take, drop}
+use lib.ListN.{take, drop}
 use Rattle.lists.specs.Rows.{flat}
 use Rattle.ledger.specs.Message.{Message}
 use Rattle.ledger.specs.Record.{Record}

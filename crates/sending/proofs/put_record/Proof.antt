@@ -1,7 +1,7 @@
 -- `sending::put_record` meets its contract. Assumes nothing.
-use Prim.Native.Nat.{ℕ, _+_, _-_, _*_, _≤_, _<_}
+use Prim.Native.Nat.{ℕ, _+_, _-_}
 use native.Mathlib.Omega.{arith}
-use mathlib.Core.Path.{_≡_, refl, sym, ap, ap₂, _∙_}
+use mathlib.Core.Path.{_≡_, ap₂, _∙_}
 use mathlib.Core.List.{List}
 use Rattle.lists.specs.Part.{patch}
 use Rattle.gossip.specs.Message.{recordLong}
@@ -12,46 +12,22 @@ use borrow.Author.Needs.{needs}
 use Rattle.sending.proofs.put_record.Statement.{statement}
 use Rattle.sending.proofs.put_record.Tie as tie
 
--- src/lib.rt:83:15
 log-row-requires : tie.Need-log-row-requires
 log-row-requires c κs =
     let s = c .before .before in
     (lawful-held (s .args .b .now) (s .pre .0), s .pre .1 .1 .0)
 
--- src/lib.rt:84:25
-mul-a : tie.Need-mul-a
-mul-a c = search needs
-
--- src/lib.rt:84:13
-add-a : tie.Need-add-a
-add-a c = search needs
-
--- src/lib.rt:85:16
-slice-aggregate-put-row-at : tie.Need-slice-aggregate-put-row-at
-slice-aggregate-put-row-at c = search needs
-
--- src/lib.rt:85:22
 shared-slice-read-put-row-at : tie.Need-shared-slice-read-put-row-at
 shared-slice-read-put-row-at c =
     let s = c .before .before .before .before .before in
     omega (arith, words-long (s .args .b .now) (s .pre .0))
 
--- src/lib.rt:85:54
-add-put-row-at : tie.Need-add-put-row-at
-add-put-row-at c = search needs
-
--- src/lib.rt:85:5
 put-row-at-requires : tie.Need-put-row-at-requires
 put-row-at-requires c κs =
     let k = c .before .before .before in
     let s = k .before .before .before in
     (search needs, row-writable (s .args .b .now) (s .pre .0) (s .args .m) (s .pre .1 .0) (s .args .i) (s .pre .1 .1 .0) (k .log-row .result) (k .log-row .ensures))
 
--- src/lib.rt:77:1
-same-length : tie.Need-same-length
-same-length c = search needs
-
--- src/lib.rt:77:1
 returns : tie.Need-returns
 returns c =
     let p = c .before .before in
@@ -67,11 +43,11 @@ put-record-spec =
     tie.close
     (tie.spec
     log-row-requires
-    mul-a
-    add-a
-    slice-aggregate-put-row-at
+    (λ c. search needs)
+    (λ c. search needs)
+    (λ c. search needs)
     shared-slice-read-put-row-at
-    add-put-row-at
+    (λ c. search needs)
     put-row-at-requires
-    same-length
+    (λ c. search needs)
     returns)

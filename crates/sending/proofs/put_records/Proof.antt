@@ -1,7 +1,7 @@
 -- `sending::put_records` meets its contract. Assumes nothing.
-use Prim.Native.Nat.{ℕ, _+_, _-_, _*_, _≤_, _<_}
+use Prim.Native.Nat.{_-_, _≤_, _<_}
 use native.Mathlib.Omega.{arith}
-use mathlib.Core.Path.{_≡_, refl, sym, ap, ap₂, _∙_}
+use mathlib.Core.Path.{_≡_, refl, sym, _∙_}
 use lib.ListN.{length, drop}
 use Rattle.gossip.specs.Message.{headLong}
 use Rattle.meaning.specs.Step.{send}
@@ -22,17 +22,14 @@ Inv-loop b m out₀ n i₀ out i =
 abbrev μ-loop : tie.MeasureT-loop
 μ-loop b m out₀ n i₀ out i = n - i
 
--- src/lib.rt:95:13
 shared-slice-read-n : tie.Need-shared-slice-read-n Inv-loop μ-loop
 shared-slice-read-n c =
     let s = c .before .before .before in
     omega (arith, words-long (s .args .b .now) (s .pre .0))
 
--- src/lib.rt:97:5
 loop-holds : tie.Need-loop-holds Inv-loop μ-loop
 loop-holds c = (omega arith, refl, refl)
 
--- src/lib.rt:98:9
 put-record-requires : tie.Need-put-record-requires Inv-loop μ-loop
 put-record-requires c κs =
     let l = c .before .before in
@@ -40,15 +37,6 @@ put-record-requires c κs =
     let few = sent-count (s .args .b .now) (s .pre .0) in
     (s .pre .0, (s .pre .1 .0, (omega (arith, few), omega (arith, few))))
 
--- src/lib.rt:99:9
-add-i : tie.Need-add-i Inv-loop μ-loop
-add-i c = search needs
-
--- src/lib.rt:97:5
-loop-less : tie.Need-loop-less Inv-loop μ-loop
-loop-less c = search needs
-
--- src/lib.rt:97:5
 loop-again : tie.Need-loop-again Inv-loop μ-loop
 loop-again c =
     let p = c .before .before in
@@ -58,11 +46,6 @@ loop-again c =
     let lt : l .loop .i < length ((bookOf ws) .log) = omega (arith, sent-count ws (s .pre .0), p .before .before .loop-test .taken) in
     (omega arith, search needs, l .loop .inv .2 ∙ sent-next ws (s .pre .0) (l .loop .i) (l .loop .out) _ lt (omega (arith, s .pre .1 .1, l .loop .inv .1)) (p .put-record .ensures))
 
--- src/lib.rt:89:1
-same-length : tie.Need-same-length Inv-loop μ-loop
-same-length c = search needs
-
--- src/lib.rt:89:1
 returns : tie.Need-returns Inv-loop μ-loop
 returns c =
     let l = c .before in
@@ -78,8 +61,8 @@ put-records-spec =
     shared-slice-read-n
     loop-holds
     put-record-requires
-    add-i
-    loop-less
+    (λ c. search needs)
+    (λ c. search needs)
     loop-again
-    same-length
+    (λ c. search needs)
     returns)

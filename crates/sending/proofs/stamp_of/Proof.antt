@@ -8,21 +8,11 @@ use borrow.Author.Needs.{needs}
 use Rattle.sending.proofs.stamp_of.Statement.{statement}
 use Rattle.sending.proofs.stamp_of.Tie as tie
 
--- src/lib.rt:42:13
 known-of-requires : tie.Need-known-of-requires
 known-of-requires c κs =
     let s = c .before in
     (lawful-held (s .args .b .now) (s .pre), me-in (bookOf (s .args .b .now)) (lawful-sound (s .args .b .now) (s .pre)))
 
--- src/lib.rt:43:14
-slice-aggregate-parts-at : tie.Need-slice-aggregate-parts-at
-slice-aggregate-parts-at c = search needs
-
--- src/lib.rt:43:5
-parts-at-requires : tie.Need-parts-at-requires
-parts-at-requires c κs = search needs
-
--- src/lib.rt:38:1
 returns : tie.Need-returns
 returns c =
     let k = c .before .before in
@@ -32,4 +22,4 @@ returns c =
 
 pub stamp-of-spec : {M : Type 1} → statement M
 stamp-of-spec =
-    tie.close (tie.spec known-of-requires slice-aggregate-parts-at parts-at-requires returns)
+    tie.close (tie.spec known-of-requires (λ c. search needs) (λ c κs. search needs) returns)
