@@ -1,0 +1,143 @@
+-- What the writers leave of a sound book's lines, and how the parts of its message come together. Assumes nothing.
+use Prim.Native.Nat.{ℕ, _+_, _≤_, _<_}
+use native.Mathlib.Omega.{arith}
+use mathlib.Core.Path.{_≡_, sym, ap, ap₂, subst, _∙_}
+use mathlib.Core.List.{List, _∷_, _++_, append-nil}
+use borrow.Author.Tests.{le-ltb, lt-ltb}
+use lib.Dec.{T}
+use lib.ListN.{length, getD, drop, drop-of-length-le}
+use Rattle.lists.specs.Facts.{is-true}
+use Rattle.lists.specs.Part.{patch}
+use Rattle.stamp.specs.Parts.{partsAt, listOf}
+use Rattle.stamp.specs.PartsLaws.{list-parts}
+use Rattle.stamp.specs.Stamp.{Stamp}
+use Rattle.stamp.specs.declared.Parts.{Parts}
+use Rattle.tally.specs.Tap.{fields, tapOf, bodyFits}
+use Rattle.tally.specs.declared.Tap.{Tap}
+use Rattle.ledger.specs.Message.{messageFits}
+use Rattle.ledger.specs.Record.{Record}
+use Rattle.log.specs.Region.{rowLong, recordAt}
+use Rattle.wire.specs.Kinds.{Kind, size, headKind, recordKind}
+use Rattle.wire.specs.Returns.{meets}
+use Rattle.wire.specs.Said.{figures}
+use Rattle.wire.specs.Write.{Meets, writable, written, writeAs}
+use Rattle.wire.specs.declared.Said.the-variants as said
+use Rattle.wire.specs.declared.Written.{Written}
+use Rattle.wire.specs.declared.Written.the-variants.{Wrote, Refused}
+use Rattle.gossip.specs.Message.{headLong, recordLong, headOf, lineFor, bytesOf}
+use Rattle.meaning.specs.Book.{known}
+use Rattle.meaning.specs.BookLaws.{send-fits}
+use Rattle.meaning.specs.Step.{send}
+use Rattle.layout.specs.SoundWords.{lawful-sound, lawful-held}
+use Rattle.layout.specs.Words.{bookLong, bookOf, lawful}
+use Rattle.moves.specs.Places.{noRecord, held-long, log-most, log-count}
+use Rattle.moves.specs.Ready.{getD-in}
+use Rattle.answers.specs.Lent.{putFront}
+use Rattle.sending.specs.Lines.{head-writable, record-writable}
+use Rattle.sending.specs.Long.{record-long, length-message, whole-message, next-record, no-record}
+use Rattle.sending.specs.Parts.{startOf, recordBytes, withHead, withRecords}
+
+-- a line that a writer takes, where there is room for it
+wrote-line : (k : Kind) (line out : List ℕ) (a : Written) (bytes : List ℕ) → T (writable k line) → size k ≤ length out → Meets (writeAs k line out) a bytes → bytes ≡ written k line ++ drop (size k) out
+unfolding writeAs
+wrote-line k line out a bytes w h m = m .leaves ∙ rw (is-true (writable k line) w, le-ltb (length out) (size k) h)
+
+-- a row's line, and what is left where its part has just the room
+module _ (row : List ℕ) (n : ℕ) (m label : Parts) (tap : Tap) (long : length row ≡ rowLong) (e : label ≡ partsAt 2 row) (f : tap ≡ tapOf (getD row 10 0)) where
+  row-line : figures (said.Record (getD row 0 0) (getD row 1 0) label tap) ≡ lineFor (recordAt row)
+  unfolding lineFor
+  row-line =
+      ap₂ (λ (p : Parts) (t : Tap). 2 ∷ getD row 0 0 ∷ getD row 1 0 ∷ listOf p ++ fields t) e f
+      ∙ ap (λ (l : Stamp). 2 ∷ getD row 0 0 ∷ getD row 1 0 ∷ l ++ fields (tapOf (getD row 10 0))) (list-parts 2 row (omega arith))
+
+  pub wrote-row :
+      (out : List ℕ) (a : Written) (bytes : List ℕ) → length out ≡ recordLong → T (writable (recordKind n (listOf m)) (lineFor (recordAt row)))
+      → Meets (writeAs (recordKind n (listOf m)) (figures (said.Record (getD row 0 0) (getD row 1 0) label tap)) out) a bytes
+      → bytes ≡ written (recordKind n (listOf m)) (lineFor (recordAt row))
+  unfolding recordKind
+  wrote-row out a bytes g w o =
+      let room : recordLong ≤ length out = omega arith in
+      let none : length out ≤ recordLong = omega arith in
+      wrote-line (recordKind n (listOf m)) (lineFor (recordAt row)) out a bytes w room (subst (λ (l : List ℕ). Meets (writeAs (recordKind n (listOf m)) l out) a bytes) row-line o)
+      ∙ ap (λ (l : List ℕ). written (recordKind n (listOf m)) (lineFor (recordAt row)) ++ l) (drop-of-length-le out none)
+      ∙ append-nil (written (recordKind n (listOf m)) (lineFor (recordAt row)))
+
+module _ (ws : List ℕ) (h : T (lawful ws)) where
+  sent-fits : T (messageFits bodyFits (send (bookOf ws)))
+  sent-fits = send-fits (bookOf ws) (lawful-sound ws h)
+
+  pub words-long : length ws ≡ bookLong
+  words-long = held-long ws (lawful-held ws h)
+
+  pub log-few : getD ws 2 0 ≤ 256
+  log-few = log-most ws (lawful-held ws h)
+
+  pub sent-count : getD ws 2 0 ≡ length ((bookOf ws) .log)
+  sent-count = log-count ws (lawful-held ws h)
+
+  pub sent-long : length (bytesOf (send (bookOf ws))) ≡ startOf (getD ws 2 0)
+  unfolding send
+  sent-long = length-message (send (bookOf ws)) sent-fits ∙ ap (λ (k : ℕ). startOf k) (sym sent-count)
+
+  module _ (m : Parts) (e : listOf m ≡ known (bookOf ws)) where
+    head-line : figures (said.Head (getD ws 0 0) (getD ws 1 0) (getD ws 2 0) m) ≡ headOf (send (bookOf ws))
+    unfolding headOf send bookOf
+    head-line = ap₂ (λ (c : ℕ) (s : Stamp). 1 ∷ getD ws 0 0 ∷ getD ws 1 0 ∷ c ∷ s) sent-count e
+
+    pub wrote-head :
+        (out : List ℕ) (a : Written) (bytes : List ℕ) → headLong ≤ length out → Meets (writeAs headKind (figures (said.Head (getD ws 0 0) (getD ws 1 0) (getD ws 2 0) m)) out) a bytes
+        → bytes ≡ withHead (send (bookOf ws)) out
+    unfolding withHead headKind
+    wrote-head out a bytes l o =
+        wrote-line headKind (headOf (send (bookOf ws))) out a bytes (head-writable (send (bookOf ws)) sent-fits) l
+        (subst (λ (v : List ℕ). Meets (writeAs headKind v out) a bytes) head-line o)
+
+    -- a row of the log
+    module _ (i : ℕ) (l : i < length ((bookOf ws) .log)) (row : List ℕ) (r : recordAt row ≡ getD ((bookOf ws) .log) i noRecord) where
+      pub row-writable : T (writable (recordKind (getD ws 1 0) (listOf m)) (lineFor (recordAt row)))
+      unfolding send bookOf
+      row-writable = rw (e, r) (record-writable (send (bookOf ws)) sent-fits (getD ((bookOf ws) .log) i noRecord) (getD-in ((bookOf ws) .log) i noRecord l))
+
+      pub row-bytes : written (recordKind (getD ws 1 0) (listOf m)) (lineFor (recordAt row)) ≡ recordBytes (send (bookOf ws)) (getD ((bookOf ws) .log) i noRecord)
+      unfolding recordBytes send bookOf
+      row-bytes = ap₂ (λ (s : Stamp) (x : Record). written (recordKind (getD ws 1 0) s) (lineFor x)) e r
+
+  -- the pass over the log: one record more, and past the last
+  abbrev ahead : ℕ → List ℕ → List ℕ
+  ahead i out = withRecords (send (bookOf ws)) (drop i ((bookOf ws) .log)) (startOf i) (startOf (length ((bookOf ws) .log))) out
+
+  pub sent-next :
+      (i : ℕ) (out left : List ℕ) → i < length ((bookOf ws) .log) → startOf (length ((bookOf ws) .log)) ≤ length out
+      → left ≡ patch (startOf i) recordLong out (recordBytes (send (bookOf ws)) (getD ((bookOf ws) .log) i noRecord)) → ahead i out ≡ ahead (i + 1) left
+  unfolding send
+  sent-next i out left l room e =
+      let log = (bookOf ws) .log in
+      let end : startOf i + recordLong ≤ startOf (length log) = omega arith in
+      let next : startOf i + recordLong ≡ startOf (i + 1) = omega arith in
+      next-record (send (bookOf ws)) log out i (startOf i) (startOf (length log)) noRecord l (record-long (send (bookOf ws)) sent-fits (getD log i noRecord) (getD-in log i noRecord l)) end room
+      ∙ ap₂ (λ (at : ℕ) (o : List ℕ). withRecords (send (bookOf ws)) (drop (i + 1) log) at (startOf (length log)) o) next (sym e)
+
+  pub sent-last : (i : ℕ) (out : List ℕ) → i ≤ length ((bookOf ws) .log) → getD ws 2 0 ≤ i → ahead i out ≡ out
+  sent-last i out l g =
+      let log = (bookOf ws) .log in
+      let all : length log ≤ i = omega (arith, sent-count) in
+      let at : startOf i ≡ startOf (length log) = omega arith in
+      ap (λ (k : ℕ). withRecords (send (bookOf ws)) (drop i log) k (startOf (length log)) out) at ∙ no-record (send (bookOf ws)) log out i (startOf (length log)) all
+
+  -- the head and then the records
+  pub sent-whole :
+      (out headed left : List ℕ) → headed ≡ withHead (send (bookOf ws)) out → left ≡ withRecords (send (bookOf ws)) ((bookOf ws) .log) headLong (startOf (length ((bookOf ws) .log))) headed
+      → left ≡ bytesOf (send (bookOf ws)) ++ drop (length (bytesOf (send (bookOf ws)))) out
+  unfolding send
+  sent-whole out headed left e f =
+      f
+      ∙ ap (withRecords (send (bookOf ws)) ((bookOf ws) .log) headLong (startOf (length ((bookOf ws) .log)))) e
+      ∙ whole-message (send (bookOf ws)) sent-fits out
+
+-- a message at the front of an output, by the test of the room
+module _ (bytes out : List ℕ) (n : ℕ) (e : length bytes ≡ n) where
+  pub too-short : length out < n → Meets (putFront bytes out) (Refused 12) out
+  too-short l = meets (Refused 12) out (rw (e, lt-ltb (length out) n l))
+
+  pub fits-front : n ≤ length out → (left : List ℕ) → left ≡ bytes ++ drop (length bytes) out → Meets (putFront bytes out) (Wrote n) left
+  fits-front l left w = meets (Wrote n) left (rw (w, e, le-ltb (length out) n l))
