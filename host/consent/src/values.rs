@@ -191,7 +191,7 @@ impl Refusal {
     /// The refusals with their numbers and what they say.
     const TABLE: [(u8, Refusal, &'static str); 11] = [
         (1, Refusal::Malformed, "the message is malformed"),
-        (2, Refusal::WrongHouse, "there is no such screen in this house"),
+        (2, Refusal::WrongHouse, "the house or the screen is wrong"),
         (3, Refusal::LabelAhead, "the label names taps that this screen has not taken"),
         (4, Refusal::Old, "the gossip is old"),
         (5, Refusal::Crossed, "the gossip is crossed with an earlier one"),
