@@ -9,6 +9,9 @@ const TAKEN: u8 = 5;
 const VERDICT: u8 = 7;
 const GOSSIP_TAKEN: u8 = 10;
 
+/// So many taps or questions make a step that is timed.
+const STEP: u32 = 25;
+
 const LOG_ROOM: u32 = 256;
 const KNOWN_ROOM: u32 = 1024;
 
@@ -34,21 +37,22 @@ pub fn works() -> Vec<Work> {
 /// A log holds 256, so after every 250 taps the other screen says, untimed, that it has them.
 fn taps() -> Work {
     let mut steps = Vec::new();
-    for block in 0..4 {
-        let serials = 250 * block..250 * (block + 1);
-        let messages = serials.map(|serial| Request::Tap(tap(serial), Stamp::ZERO).encode()).collect();
+    for from in (0..1000).step_by(STEP as usize) {
+        let messages =
+            (from..from + STEP).map(|serial| Request::Tap(tap(serial), Stamp::ZERO).encode()).collect();
         steps.push(Step { book: 0, messages, reply: TAKEN, counts: true });
-        let told = gossip(2, first(0, 250 * (block + 1)), Vec::new());
-        steps.push(Step { book: 0, messages: vec![told], reply: GOSSIP_TAKEN, counts: false });
+        let known = from + STEP;
+        if known % 250 == 0 {
+            let told = gossip(2, first(0, known), Vec::new());
+            steps.push(Step { book: 0, messages: vec![told], reply: GOSSIP_TAKEN, counts: false });
+        }
     }
     Work { name: "1,000 taps, from a fresh book", books: vec![fresh(2)], steps }
 }
 
 fn questions() -> Work {
     let book = after(&taps());
-    let asked = (0..1000).map(|number| question(number as u8 % 64)).collect();
-    let step = Step { book: 0, messages: asked, reply: VERDICT, counts: true };
-    Work { name: "1,000 questions, 1,000 counted taps, log empty", books: vec![book], steps: vec![step] }
+    Work { name: "1,000 questions, 1,000 counted, log empty", books: vec![book], steps: thousand_questions() }
 }
 
 /// A book may know 1,024 records, so each message has a fresh book of its own.
@@ -70,9 +74,15 @@ fn gossips() -> Work {
 /// A question does little itself, so its time is that of the judgement of the book.
 fn soundness() -> Work {
     let book = after(&filling());
-    let asked = (0..1000).map(|number| question(number as u8 % 64)).collect();
-    let step = Step { book: 0, messages: asked, reply: VERDICT, counts: true };
-    Work { name: "1,000 questions, 1,024 counted, log full", books: vec![book], steps: vec![step] }
+    Work { name: "1,000 questions, 1,024 counted, log full", books: vec![book], steps: thousand_questions() }
+}
+
+fn thousand_questions() -> Vec<Step> {
+    let steps = (0..1000).step_by(STEP as usize).map(|_| {
+        let messages = (0..STEP).map(|number| question(number as u8)).collect();
+        Step { book: 0, messages, reply: VERDICT, counts: true }
+    });
+    steps.collect()
 }
 
 /// Fills a book of three screens: 1,024 counted taps, of which the last 256 stand in the log, since screen 2 lacks them.

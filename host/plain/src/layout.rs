@@ -126,7 +126,7 @@ impl Book {
         let mut applied = self.log.iter().filter(|record| record.is_applied(self.known()));
         applied.all(|record| {
             !record.is_known(&everywhere)
-                && self.value.covers(&record.stamp())
+                && record.has_stamp_below(&self.value)
                 && self.counted.binary_search(&record.tap).is_ok()
         })
     }

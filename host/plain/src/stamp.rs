@@ -8,9 +8,10 @@ impl Stamp {
     /// The stamp of nothing.
     pub const ZERO: Stamp = Stamp([0; MOST_SCREENS]);
 
-    /// Whether every part of `other` is at most that part of `self`.
+    /// Whether every part of `other` is at most that part of `self`: no early way out, so that it compiles to wide
+    /// instructions.
     pub fn covers(&self, other: &Stamp) -> bool {
-        self.exceeded_by(other) == 0
+        self.0.iter().zip(&other.0).fold(true, |all, (ours, theirs)| all & (theirs <= ours))
     }
 
     /// Bit k is set exactly when part k of `other` exceeds that of `self`.
