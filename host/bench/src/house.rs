@@ -42,7 +42,7 @@ fn taps() -> Work {
             (from..from + STEP).map(|serial| Request::Tap(tap(serial), Stamp::ZERO).encode()).collect();
         steps.push(Step { book: 0, messages, reply: TAKEN, counts: true });
         let known = from + STEP;
-        if known % 250 == 0 {
+        if known.is_multiple_of(250) {
             let told = gossip(2, first(0, known), Vec::new());
             steps.push(Step { book: 0, messages: vec![told], reply: GOSSIP_TAKEN, counts: false });
         }
@@ -119,7 +119,7 @@ fn fresh(screens: u64) -> Vec<u64> {
 
 fn tap(serial: u32) -> Tap {
     // Spread over front ends and prompts, so that new taps land all over the counted ones.
-    let answer = if serial % 3 == 0 { Answer::Decline } else { Answer::Accept };
+    let answer = if serial.is_multiple_of(3) { Answer::Decline } else { Answer::Accept };
     Tap {
         front_end: (serial * 37) as u8,
         serial,

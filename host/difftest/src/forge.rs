@@ -149,10 +149,10 @@ fn clear_past(random: &mut Random, m: &mut Stamp, screens: usize) {
 /// The records that the stamp promises beyond what is known, and a few that are known already.
 fn records(random: &mut Random, view: View, m: &Stamp, variety: Variety) -> Vec<Record> {
     let mut records = Vec::new();
-    for origin in 0..view.screens() {
+    for (origin, &last) in m.iter().enumerate().take(view.screens()) {
         let again = if random.once_in(4) { random.below(4) as u32 } else { 0 };
         let first = (view.known()[origin] + 1).saturating_sub(again).max(1);
-        for number in first..=m[origin] {
+        for number in first..=last {
             if records.len() == LOG_ROOM {
                 return records;
             }

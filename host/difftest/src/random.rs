@@ -19,7 +19,7 @@ impl Random {
 
     /// A number below `bound`, which is at least 1.
     pub fn below(&mut self, bound: usize) -> usize {
-        ((self.word() >> 32) * bound as u64 >> 32) as usize
+        (((self.word() >> 32) * bound as u64) >> 32) as usize
     }
 
     /// True once in `times`.
