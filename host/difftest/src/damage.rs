@@ -3,7 +3,7 @@
 
 use crate::bytes;
 use crate::forge::{self, Variety};
-use crate::pair::{Books, Pair};
+use crate::pair::{Books, Pair, UNSOUND};
 use crate::random::Random;
 use crate::view::View;
 
@@ -70,7 +70,7 @@ fn damaged(random: &mut Random, way: usize, sound: &Books, at: usize) -> u64 {
     }
 }
 
-/// A request that was near the edges of the book before the damage.
+/// Asks what was near the edges of the book before the damage. A book that is still sound stays so.
 fn ask(pair: &mut Pair, random: &mut Random, books: &mut Books, view: View) -> Result<(), String> {
     let message = match random.below(8) {
         0 => bytes::SEND.to_vec(),
@@ -81,7 +81,13 @@ fn ask(pair: &mut Pair, random: &mut Random, books: &mut Books, view: View) -> R
     if random.once_in(4) {
         pair.permission(books, &message)?;
     }
-    let room = pair.reply_room(&message)?;
-    pair.answer(books, &message, room)?;
+    if answer(pair, books, &message)? != UNSOUND && answer(pair, books, &bytes::SEND)? == UNSOUND {
+        return Err(format!("{} left an unsound book", bytes::hex(&message)));
+    }
     Ok(())
+}
+
+fn answer(pair: &mut Pair, books: &mut Books, message: &[u8]) -> Result<Vec<u8>, String> {
+    let room = pair.reply_room(message)?;
+    pair.answer(books, message, room)
 }

@@ -1,6 +1,6 @@
 use crate::bytes;
 use crate::forge::{self, Variety};
-use crate::pair::{Books, Pair};
+use crate::pair::{Books, Pair, UNSOUND};
 use crate::random::Random;
 use crate::view::{View, KNOWN_ROOM, LOG_ROOM};
 
@@ -81,6 +81,9 @@ impl House {
             pair.permission(books, &message)?;
         }
         let reply = pair.answer(books, &message, room)?;
+        if reply == UNSOUND {
+            return Err(format!("the book of screen {screen} became unsound"));
+        }
         if reply.first() == Some(&1) {
             self.post(random, reply);
         }

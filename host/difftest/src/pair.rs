@@ -6,6 +6,9 @@ use crate::engine::Engine;
 /// What stands in a reply's buffer before an answer: both sides must leave the same bytes past the reply.
 const UNTOUCHED: u8 = 0xa5;
 
+/// The refusal of a book that is unsound or of wrong length.
+pub const UNSOUND: [u8; 2] = [9, 11];
+
 /// Two engines, the left one under test and the right one the second opinion, and what they were asked so far.
 pub struct Pair<'a> {
     left: &'a dyn Engine,

@@ -108,6 +108,11 @@ impl Book {
         &self.table[self.screen]
     }
 
+    /// What each screen of the house is known to know.
+    pub fn table(&self) -> &[Stamp] {
+        &self.table[..self.screens]
+    }
+
     /// The merge of the stamps of all applied records.
     pub fn value(&self) -> &Stamp {
         &self.value
