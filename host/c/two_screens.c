@@ -29,7 +29,8 @@ static void ask(int screen, const char *where, uint8_t taps)
 {
     uint8_t question[34] = {4, 7, 0, 0, 0, taps};
     answer(screen, where, question, sizeof question);
-    printf("%s, permission: %s\n", where, consent_permission(books[screen], WORDS, question, sizeof question) ? "yes" : "no");
+    bool may = consent_permission(books[screen], WORDS, question, sizeof question);
+    printf("%s, permission: %s\n", where, may ? "yes" : "no");
 }
 
 int main(void)

@@ -15,10 +15,11 @@ mkdir -p "$folder"
 folder=$(cd "$folder" && pwd -P)
 
 # The headers of the C language itself are the same for every processor.
-"$tools/bin/clang" --target=x86_64-unknown-linux-gnu -std=c11 -O2 -ffreestanding -isystem "$(gcc -print-file-name=include)" \
-    -I"$include" -c "$here/bridge.c" -o "$folder/bridge.o"
-"$own/bin/rattle-link" --target x86_64-unknown-linux-gnu --toolchain "$tools" -o "$folder/bridge" "$folder/bridge.o" "$archive" \
-    2>"$folder/link.log" || { cat "$folder/link.log" >&2; exit 1; }
+headers=$(gcc -print-file-name=include)
+"$tools/bin/clang" --target=x86_64-unknown-linux-gnu -std=c11 -O2 -ffreestanding -isystem "$headers" -I"$include" \
+    -c "$here/bridge.c" -o "$folder/bridge.o"
+"$own/bin/rattle-link" --target x86_64-unknown-linux-gnu --toolchain "$tools" -o "$folder/bridge" \
+    "$folder/bridge.o" "$archive" 2>"$folder/link.log" || { cat "$folder/link.log" >&2; exit 1; }
 
 gcc -std=c11 -O2 -fPIC -Wall -Wextra -Werror -I"$include" \
     -DEMULATOR="\"$tools/bin/qemu-x86_64\"" -DLOADER="\"$tools/lib/ld-linux-x86-64.so.2\"" \

@@ -85,7 +85,7 @@ fn thousand_questions() -> Vec<Step> {
     steps.collect()
 }
 
-/// Fills a book of three screens: 1,024 counted taps, of which the last 256 stand in the log, since screen 2 lacks them.
+/// Fills a book of three screens: 1,024 counted taps, the last 256 of them in the log, since screen 2 lacks them.
 fn filling() -> Work {
     let mut messages = Vec::new();
     for known in (LOG_ROOM..=KNOWN_ROOM).step_by(LOG_ROOM as usize) {

@@ -78,7 +78,8 @@ impl Car {
 fn verdict(screen: usize, prompt: u8, standing: &Standing) -> String {
     let Standing { showing, accepts, declines, .. } = standing;
     let verdict = show::verdict(standing.verdict);
-    format!("Screen {screen}: prompt {prompt} is {verdict}; showing {showing}, accepts {accepts}, declines {declines}.\n")
+    let counts = format!("showing {showing}, accepts {accepts}, declines {declines}");
+    format!("Screen {screen}: prompt {prompt} is {verdict}; {counts}.\n")
 }
 
 fn refused(screen: usize, refusal: Refusal) -> String {

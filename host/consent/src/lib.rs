@@ -34,7 +34,7 @@
 //! # Labels
 //!
 //! Taken and Already carry a [`Stamp`]. A front end keeps the merge of the stamps it was given and hands it in as the
-//! label of its next request: a question at a label is answered only by a book that has applied all that the label names.
+//! label of its next request: a question at a label is answered only by a book that has applied all that it names.
 //!
 //! # Memory
 //!

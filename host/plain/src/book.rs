@@ -179,7 +179,7 @@ impl Book {
             return Err(Refusal::Spent);
         }
         let fresh = gossip.records().filter(|record| !record.is_known(&before));
-        // The message's records rise strictly and none is above m, so as many as are missing are exactly the missing ones.
+        // The message's records rise strictly and none is above m: if as many are new as are missing, none is missing.
         let new = fresh.clone().count();
         if new as u64 != merged.sum() - before.sum() {
             return Err(Refusal::Gap);
