@@ -1,0 +1,151 @@
+//! The work that is timed.
+
+use consent::{Answer, Gossip, Question, Record, Request, Stamp, Tap};
+
+/// The longest reply: a send with a full log.
+pub const LONGEST_REPLY: usize = 37 + 256 * 47;
+
+const TAKEN: u8 = 5;
+const VERDICT: u8 = 7;
+const GOSSIP_TAKEN: u8 = 10;
+
+/// So many taps or questions make a step that is timed.
+const STEP: u32 = 25;
+
+const LOG_ROOM: u32 = 256;
+const KNOWN_ROOM: u32 = 1024;
+
+/// Messages to one book that get the same kind of reply; only those that count are timed.
+pub struct Step {
+    pub book: usize,
+    pub messages: Vec<Vec<u8>>,
+    pub reply: u8,
+    pub counts: bool,
+}
+
+/// Books as they are before the work, and its steps.
+pub struct Work {
+    pub name: &'static str,
+    pub books: Vec<Vec<u64>>,
+    pub steps: Vec<Step>,
+}
+
+pub fn works() -> Vec<Work> {
+    vec![taps(), questions(), gossips(), soundness()]
+}
+
+/// A log holds 256, so after every 250 taps the other screen says, untimed, that it has them.
+fn taps() -> Work {
+    let mut steps = Vec::new();
+    for from in (0..1000).step_by(STEP as usize) {
+        let messages =
+            (from..from + STEP).map(|serial| Request::Tap(tap(serial), Stamp::ZERO).encode()).collect();
+        steps.push(Step { book: 0, messages, reply: TAKEN, counts: true });
+        let known = from + STEP;
+        if known.is_multiple_of(250) {
+            let told = gossip(2, first(0, known), Vec::new());
+            steps.push(Step { book: 0, messages: vec![told], reply: GOSSIP_TAKEN, counts: false });
+        }
+    }
+    Work { name: "1,000 taps, from a fresh book", books: vec![fresh(2)], steps }
+}
+
+fn questions() -> Work {
+    let book = after(&taps());
+    Work { name: "1,000 questions, 1,000 counted, log empty", books: vec![book], steps: thousand_questions() }
+}
+
+/// A book may know 1,024 records, so each message has a fresh book of its own.
+fn gossips() -> Work {
+    let message = gossip(3, first(1, 200), records(1, 200));
+    let steps = (0..100).map(|book| Step {
+        book,
+        messages: vec![message.clone()],
+        reply: GOSSIP_TAKEN,
+        counts: true,
+    });
+    Work {
+        name: "100 gossips of 200 records, to fresh books",
+        steps: steps.collect(),
+        books: vec![fresh(3); 100],
+    }
+}
+
+/// A question does little itself, so its time is that of the judgement of the book.
+fn soundness() -> Work {
+    let book = after(&filling());
+    Work { name: "1,000 questions, 1,024 counted, log full", books: vec![book], steps: thousand_questions() }
+}
+
+fn thousand_questions() -> Vec<Step> {
+    let steps = (0..1000).step_by(STEP as usize).map(|_| {
+        let messages = (0..STEP).map(|number| question(number as u8)).collect();
+        Step { book: 0, messages, reply: VERDICT, counts: true }
+    });
+    steps.collect()
+}
+
+/// Fills a book of three screens: 1,024 counted taps, the last 256 of them in the log, since screen 2 lacks them.
+fn filling() -> Work {
+    let mut messages = Vec::new();
+    for known in (LOG_ROOM..=KNOWN_ROOM).step_by(LOG_ROOM as usize) {
+        messages.push(gossip(3, first(1, known), records(known - LOG_ROOM + 1, known)));
+        if known < KNOWN_ROOM {
+            let mut told = gossip(3, first(1, known), Vec::new());
+            // The same stamp from screen 2.
+            told[1] = 2;
+            messages.push(told);
+        }
+    }
+    let step = Step { book: 0, messages, reply: GOSSIP_TAKEN, counts: false };
+    Work { name: "filling", books: vec![fresh(3)], steps: vec![step] }
+}
+
+/// The first book after a work.
+fn after(work: &Work) -> Vec<u64> {
+    let mut book = work.books[0].clone();
+    let mut reply = vec![0; LONGEST_REPLY];
+    for message in work.steps.iter().flat_map(|step| &step.messages) {
+        plain::entry::answer(&mut book, message, &mut reply);
+    }
+    book
+}
+
+fn fresh(screens: u64) -> Vec<u64> {
+    let mut book = vec![0; plain::entry::book_words()];
+    assert_eq!(plain::entry::open(&mut book, 0, screens), 0);
+    book
+}
+
+fn tap(serial: u32) -> Tap {
+    // Spread over front ends and prompts, so that new taps land all over the counted ones.
+    let answer = if serial.is_multiple_of(3) { Answer::Decline } else { Answer::Accept };
+    Tap {
+        front_end: (serial * 37) as u8,
+        serial,
+        prompt: (serial % 64) as u8,
+        showing: 1 + (serial % 5) as u16,
+        answer,
+    }
+}
+
+fn question(prompt: u8) -> Vec<u8> {
+    Request::Question(Question { prompt, label: Stamp::ZERO }).encode()
+}
+
+/// The stamp that names the first so many records of one screen.
+fn first(screen: usize, count: u32) -> Stamp {
+    let mut stamp = Stamp::ZERO;
+    stamp.0[screen] = count;
+    stamp
+}
+
+/// Records of screen 1 that wait for nothing.
+fn records(from: u32, to: u32) -> Vec<Record> {
+    (from..=to).map(|number| Record { origin: 1, number, label: Stamp::ZERO, tap: tap(number) }).collect()
+}
+
+/// Gossip from screen 1.
+fn gossip(screens: u8, stamp: Stamp, records: Vec<Record>) -> Vec<u8> {
+    Gossip { sender: 1, screens, stamp, records }.encode().expect("at most 256 records")
+}

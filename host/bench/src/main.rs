@@ -1,0 +1,68 @@
+//! Prints what the proved library and the ordinary Rust version take for the same messages, in one run.
+
+mod house;
+
+use std::hint::black_box;
+use std::time::{Duration, Instant};
+
+use house::Work;
+
+/// Each work is done so often after a first time.
+const ROUNDS: usize = 20;
+
+/// One side of the comparison: answers a message on lent words.
+type Answer = fn(&mut [u64], &[u8], &mut [u8]) -> usize;
+
+fn main() {
+    if cfg!(debug_assertions) {
+        eprintln!("This is no release build; run it with `cargo run --release -p bench`.");
+    }
+    println!("{:44} {:>12} {:>12} {:>8}", "", "proved", "plain", "ratio");
+    for work in house::works() {
+        let proved = quickest(&work, consent::lent::answer);
+        let plain = quickest(&work, plain::entry::answer);
+        let ratio = proved.as_secs_f64() / plain.as_secs_f64();
+        println!("{:44} {:>12} {:>12} {:>8.2}", work.name, shown(proved), shown(plain), ratio);
+    }
+    println!();
+    println!("Each work is cut into short steps; a step's time is its quickest of {} rounds.", ROUNDS + 1);
+    println!("Books and messages are made before the clock starts, the books anew for each round, so they are in the");
+    println!("cache as far as they fit; the one buffer for replies is not cleared between answers.");
+    if cfg!(not(target_arch = "x86_64")) {
+        println!("This machine is not x86-64: the proved library ran under an emulator, and its times say nothing.");
+    }
+}
+
+/// The sum of each step's quickest time: a busy machine disturbs some step in every round, but hardly one in all.
+fn quickest(work: &Work, answer: Answer) -> Duration {
+    let mut quickest = once(work, answer);
+    for _ in 0..ROUNDS {
+        for (least, time) in quickest.iter_mut().zip(once(work, answer)) {
+            *least = time.min(*least);
+        }
+    }
+    quickest.iter().sum()
+}
+
+/// Answers every message of the work once; the times of the steps that count.
+fn once(work: &Work, answer: Answer) -> Vec<Duration> {
+    let mut books = work.books.clone();
+    let mut reply = vec![0; house::LONGEST_REPLY];
+    let mut times = Vec::new();
+    for step in &work.steps {
+        let start = Instant::now();
+        for message in &step.messages {
+            let length = answer(&mut books[step.book], black_box(message), &mut reply);
+            black_box(&reply[..length]);
+            assert_eq!(reply[0], step.reply, "{}: another kind of reply", work.name);
+        }
+        if step.counts {
+            times.push(start.elapsed());
+        }
+    }
+    times
+}
+
+fn shown(time: Duration) -> String {
+    format!("{:.3} ms", time.as_secs_f64() * 1000.0)
+}

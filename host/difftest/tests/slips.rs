@@ -1,0 +1,36 @@
+//! Each deliberate slip in `slips/` is one that a good engineer might make. The default run finds every one of them.
+
+use difftest::{run, Functions, Plan};
+
+/// A slip's name, what it is in words, and its engine.
+macro_rules! slip {
+    ($name:ident, $what:expr) => {
+        (
+            stringify!($name),
+            $what,
+            Functions {
+                book_words: $name::entry::book_words,
+                open: $name::entry::open,
+                answer: $name::entry::answer,
+                permission: $name::entry::permission,
+                reply_room: $name::entry::reply_room,
+            },
+        )
+    };
+}
+
+include!(concat!(env!("OUT_DIR"), "/slips.rs"));
+
+#[test]
+fn every_slip_is_found() {
+    let mut missed = Vec::new();
+    for (name, what, slipped) in SLIPS {
+        match run(&Plan::default(), slipped, &Functions::PLAIN) {
+            Err(found) => {
+                println!("{name}: {what}\n    seed {:#x}, after {} messages", found.seed, found.after)
+            }
+            Ok(_) => missed.push(*name),
+        }
+    }
+    assert!(missed.is_empty(), "not found: {missed:?}");
+}

@@ -1,0 +1,14 @@
+/* A call of the library as it goes through the pipe: this, then the book's words, then the message. Back come the
+ * result, the book's words and the reply. */
+#ifndef CALL_H
+#define CALL_H
+
+#include <stdint.h>
+
+enum { BOOK_WORDS, OPEN, ANSWER, PERMISSION, REPLY_ROOM };
+
+struct call {
+    uint64_t function, words, length, room, screen, screens;
+};
+
+#endif

@@ -1,0 +1,251 @@
+use super::book::{Prompt, QuestionAnswer, TapAnswer, LOG_ROOM};
+use super::{Book, Record, Refusal, Stamp, Tap, LEAST_SCREENS, MOST_SCREENS, PROMPTS};
+
+/// The length of a gossip message's head.
+pub const HEAD_BYTES: usize = 37;
+/// The length of one record of a gossip message.
+pub const RECORD_BYTES: usize = 47;
+
+const STAMP_BYTES: usize = 4 * MOST_SCREENS;
+const TAP_BYTES: usize = 9;
+
+/// The byte of kind of each message.
+pub(super) mod kind {
+    pub const GOSSIP: u8 = 1;
+    pub const RECORD: u8 = 2;
+    pub const TAP: u8 = 3;
+    pub const QUESTION: u8 = 4;
+    pub const TAKEN: u8 = 5;
+    pub const ALREADY: u8 = 6;
+    pub const VERDICT: u8 = 7;
+    pub const WAIT: u8 = 8;
+    pub const REFUSAL: u8 = 9;
+    pub const GOSSIP_TAKEN: u8 = 10;
+    pub const SEND: u8 = 12;
+}
+
+/// A request that a screen takes.
+#[derive(Clone, Copy, Debug)]
+pub enum Request<'a> {
+    Gossip(Gossip<'a>),
+    Tap { tap: Tap, label: Stamp },
+    Question { prompt: u8, label: Stamp },
+    Send,
+}
+
+/// A gossip message that obeys all field rules, read from its bytes.
+#[derive(Clone, Copy, Debug)]
+pub struct Gossip<'a> {
+    sender: usize,
+    screens: usize,
+    stamp: Stamp,
+    records: &'a [u8],
+}
+
+/// A reply other than a gossip message.
+#[derive(Clone, Copy, Debug, PartialEq, Eq)]
+pub enum Reply {
+    Tap(TapAnswer),
+    Question(QuestionAnswer),
+    GossipTaken { new: u16, applied: u16 },
+    Refused(Refusal),
+}
+
+impl<'a> Request<'a> {
+    /// The request that these bytes are, whole and obeying the field rules of a house of `screens`.
+    pub fn parse(bytes: &'a [u8], screens: usize) -> Option<Request<'a>> {
+        let (&kind, body) = bytes.split_first()?;
+        let request = match kind {
+            kind::GOSSIP => return Gossip::parse(bytes).map(Request::Gossip),
+            kind::SEND if body.is_empty() => return Some(Request::Send),
+            kind::TAP if body.len() == TAP_BYTES + STAMP_BYTES => {
+                let (tap, label) = body.split_at(TAP_BYTES);
+                Request::Tap { tap: read_tap(tap)?, label: read_stamp(label) }
+            }
+            kind::QUESTION if body.len() == 1 + STAMP_BYTES => {
+                Request::Question { prompt: body[0], label: read_stamp(&body[1..]) }
+            }
+            _ => return None,
+        };
+        request.obeys_rules(screens).then_some(request)
+    }
+
+    fn obeys_rules(&self, screens: usize) -> bool {
+        match self {
+            Request::Tap { label, .. } => label.fits(screens),
+            Request::Question { prompt, label } => usize::from(*prompt) < PROMPTS && label.fits(screens),
+            Request::Gossip(_) | Request::Send => true,
+        }
+    }
+}
+
+impl<'a> Gossip<'a> {
+    /// The gossip message that these bytes are, by the field rules of the N in its own head.
+    pub fn parse(bytes: &'a [u8]) -> Option<Gossip<'a>> {
+        if bytes.len() < HEAD_BYTES || bytes[0] != kind::GOSSIP {
+            return None;
+        }
+        let (head, records) = bytes.split_at(HEAD_BYTES);
+        let gossip = Gossip {
+            sender: usize::from(head[1]),
+            screens: usize::from(head[2]),
+            stamp: read_stamp(&head[5..]),
+            records,
+        };
+        let count = usize::from(read_u16(&head[3..5]));
+        let whole = count <= LOG_ROOM && records.len() == count * RECORD_BYTES;
+        (whole && gossip.obeys_rules()).then_some(gossip)
+    }
+
+    fn obeys_rules(&self) -> bool {
+        let house = (LEAST_SCREENS..=MOST_SCREENS).contains(&self.screens);
+        house && self.sender < self.screens && self.stamp.fits(self.screens) && self.records_obey_rules()
+    }
+
+    fn records_obey_rules(&self) -> bool {
+        let mut last = None;
+        self.records.chunks_exact(RECORD_BYTES).all(|bytes| {
+            let Some(record) = read_record(bytes) else {
+                return false;
+            };
+            let rises = last < Some(record.place());
+            last = Some(record.place());
+            rises && record.obeys_rules(self.screens, &self.stamp)
+        })
+    }
+
+    pub fn sender(&self) -> usize {
+        self.sender
+    }
+
+    pub fn screens(&self) -> usize {
+        self.screens
+    }
+
+    pub fn stamp(&self) -> &Stamp {
+        &self.stamp
+    }
+
+    /// The records, by origin, then number.
+    pub fn records(&self) -> impl Iterator<Item = Record> + Clone + 'a {
+        self.records.chunks_exact(RECORD_BYTES).filter_map(read_record)
+    }
+}
+
+impl Book {
+    /// The length of the message that [`Book::send`] writes.
+    pub fn send_bytes(&self) -> usize {
+        HEAD_BYTES + RECORD_BYTES * self.log.len()
+    }
+
+    /// Writes the known stamp and the whole log as one gossip message; answers its length.
+    pub fn send(&self, out: &mut [u8]) -> Result<usize, Refusal> {
+        let length = self.send_bytes();
+        let Some(out) = out.get_mut(..length) else {
+            return Err(Refusal::ShortOutput);
+        };
+        let (head, records) = out.split_at_mut(HEAD_BYTES);
+        head[..3].copy_from_slice(&[kind::GOSSIP, self.screen as u8, self.screens as u8]);
+        head[3..5].copy_from_slice(&(self.log.len() as u16).to_be_bytes());
+        write_stamp(self.known(), &mut head[5..]);
+        for (record, bytes) in self.log.iter().zip(records.chunks_exact_mut(RECORD_BYTES)) {
+            write_record(record, bytes);
+        }
+        Ok(length)
+    }
+}
+
+impl Reply {
+    /// Writes the reply at the front of `out`; answers its length.
+    ///
+    /// # Panics
+    ///
+    /// When `out` is shorter than the reply.
+    pub fn write(&self, out: &mut [u8]) -> usize {
+        match self {
+            Reply::Tap(TapAnswer::Taken(stamp)) => write_stamped(kind::TAKEN, stamp, out),
+            Reply::Tap(TapAnswer::Already(stamp)) => write_stamped(kind::ALREADY, stamp, out),
+            Reply::Question(QuestionAnswer::Verdict { verdict, prompt, value }) => {
+                write_verdict(*verdict as u8, prompt, value, out)
+            }
+            Reply::Question(QuestionAnswer::Wait { lacking }) => put(&[kind::WAIT, *lacking], out),
+            Reply::Refused(refusal) => put(&[kind::REFUSAL, refusal.number()], out),
+            Reply::GossipTaken { new, applied } => {
+                let ([a, b], [c, d]) = (new.to_be_bytes(), applied.to_be_bytes());
+                put(&[kind::GOSSIP_TAKEN, a, b, c, d], out)
+            }
+        }
+    }
+}
+
+fn read_u16(bytes: &[u8]) -> u16 {
+    u16::from_be_bytes([bytes[0], bytes[1]])
+}
+
+fn read_u32(bytes: &[u8]) -> u32 {
+    u32::from_be_bytes([bytes[0], bytes[1], bytes[2], bytes[3]])
+}
+
+fn read_stamp(bytes: &[u8]) -> Stamp {
+    Stamp(std::array::from_fn(|k| read_u32(&bytes[4 * k..])))
+}
+
+fn read_tap(bytes: &[u8]) -> Option<Tap> {
+    Tap::new(bytes[0], read_u32(&bytes[1..]), bytes[5], read_u16(&bytes[6..]), bytes[8])
+}
+
+/// The record of these 47 bytes, if its kind and its tap are right; the other rules need the head.
+fn read_record(bytes: &[u8]) -> Option<Record> {
+    if bytes[0] != kind::RECORD {
+        return None;
+    }
+    Some(Record {
+        origin: usize::from(bytes[1]),
+        number: read_u32(&bytes[2..]),
+        label: read_stamp(&bytes[6..]),
+        tap: read_tap(&bytes[38..])?,
+    })
+}
+
+fn put(bytes: &[u8], out: &mut [u8]) -> usize {
+    out[..bytes.len()].copy_from_slice(bytes);
+    bytes.len()
+}
+
+fn write_stamp(stamp: &Stamp, out: &mut [u8]) {
+    for (part, bytes) in stamp.0.iter().zip(out.chunks_exact_mut(4)) {
+        bytes.copy_from_slice(&part.to_be_bytes());
+    }
+}
+
+fn write_stamped(kind: u8, stamp: &Stamp, out: &mut [u8]) -> usize {
+    let out = &mut out[..1 + STAMP_BYTES];
+    out[0] = kind;
+    write_stamp(stamp, &mut out[1..]);
+    out.len()
+}
+
+fn write_verdict(verdict: u8, prompt: &Prompt, value: &Stamp, out: &mut [u8]) -> usize {
+    let out = &mut out[..12 + STAMP_BYTES];
+    out[..2].copy_from_slice(&[kind::VERDICT, verdict]);
+    out[2..4].copy_from_slice(&prompt.showing.to_be_bytes());
+    out[4..8].copy_from_slice(&prompt.accepts.to_be_bytes());
+    out[8..12].copy_from_slice(&prompt.declines.to_be_bytes());
+    write_stamp(value, &mut out[12..]);
+    out.len()
+}
+
+fn write_record(record: &Record, out: &mut [u8]) {
+    out[..2].copy_from_slice(&[kind::RECORD, record.origin as u8]);
+    out[2..6].copy_from_slice(&record.number.to_be_bytes());
+    write_stamp(&record.label, &mut out[6..38]);
+    write_tap(record.tap, &mut out[38..]);
+}
+
+fn write_tap(tap: Tap, out: &mut [u8]) {
+    out[0] = tap.front_end();
+    out[1..5].copy_from_slice(&tap.serial().to_be_bytes());
+    out[5] = tap.prompt();
+    out[6..8].copy_from_slice(&tap.showing().to_be_bytes());
+    out[8] = tap.answer();
+}

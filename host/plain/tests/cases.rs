@@ -1,0 +1,271 @@
+//! The practice cases of document 01, A to O, and its whole case.
+
+use plain::{
+    entry, Book, Gossip, Prompt, QuestionAnswer, Refusal, Stamp, Tap, TapAnswer, Verdict, KNOWN_ROOM,
+    LOG_ROOM, WORDS,
+};
+
+const NO_LABEL: Stamp = Stamp::ZERO;
+
+fn stamp(a: u32, b: u32, c: u32) -> Stamp {
+    Stamp([a, b, c, 0, 0, 0, 0, 0])
+}
+
+fn tap(front_end: u8, serial: u32, showing: u16, answer: u8) -> Tap {
+    Tap::new(front_end, serial, 7, showing, answer).unwrap()
+}
+
+fn tap_a() -> Tap {
+    tap(5, 1, 1, Tap::ACCEPT)
+}
+
+fn tap_b() -> Tap {
+    tap(5, 2, 1, Tap::DECLINE)
+}
+
+fn taken(a: u32, b: u32, c: u32) -> Result<TapAnswer, Refusal> {
+    Ok(TapAnswer::Taken(stamp(a, b, c)))
+}
+
+fn wait(lacking: u8) -> Result<QuestionAnswer, Refusal> {
+    Ok(QuestionAnswer::Wait { lacking })
+}
+
+/// Verdict, showing, accepts and declines on prompt 7, at a label that the book must cover.
+fn verdict(book: &Book, label: Stamp) -> (Verdict, u16, u32, u32) {
+    match book.question(7, label) {
+        Ok(QuestionAnswer::Verdict { verdict, prompt, .. }) => {
+            let Prompt { showing, accepts, declines } = prompt;
+            (verdict, showing, accepts, declines)
+        }
+        other => panic!("not answered: {other:?}"),
+    }
+}
+
+fn sent(book: &Book) -> Vec<u8> {
+    let mut out = vec![0; book.send_bytes()];
+    assert_eq!(book.send(&mut out), Ok(out.len()));
+    out
+}
+
+fn deliver(book: &mut Book, message: &[u8]) -> Result<(u16, u16), Refusal> {
+    book.gossip(&Gossip::parse(message).expect("a readable message"))
+}
+
+/// A gossip head of three screens with these records' bytes after it.
+fn message(sender: u8, m: Stamp, records: &[u8]) -> Vec<u8> {
+    let count = (records.len() / plain::RECORD_BYTES) as u8;
+    let mut bytes = vec![1, sender, 3, 0, count];
+    bytes.extend(m.0.iter().flat_map(|part| part.to_be_bytes()));
+    bytes.extend(records);
+    bytes
+}
+
+fn open(screen: u64, screens: u64) -> Book {
+    Book::open(screen, screens).unwrap()
+}
+
+/// Screen 0 of three after A and B.
+fn after_b() -> Book {
+    let mut book = open(0, 3);
+    book.tap(tap_a(), NO_LABEL).unwrap();
+    book.tap(tap_b(), NO_LABEL).unwrap();
+    book
+}
+
+/// Screen 2 of three after G and H.
+fn after_h() -> Book {
+    let mut book = open(2, 3);
+    let ahead = tap(6, 1, 2, Tap::ACCEPT);
+    assert_eq!(book.tap(ahead, stamp(1, 0, 0)), taken(1, 0, 1));
+    assert_eq!(deliver(&mut book, &sent(&after_b())), Ok((2, 3)));
+    book
+}
+
+#[test]
+fn a_first_tap() {
+    let mut book = open(0, 3);
+    assert_eq!(book.tap(tap_a(), NO_LABEL), taken(1, 0, 0));
+    assert_eq!(verdict(&book, stamp(1, 0, 0)), (Verdict::Accepted, 1, 1, 0));
+    assert!(book.permission(7, stamp(1, 0, 0)));
+}
+
+#[test]
+fn b_contested() {
+    let mut book = open(0, 3);
+    book.tap(tap_a(), NO_LABEL).unwrap();
+    assert_eq!(book.tap(tap_b(), NO_LABEL), taken(2, 0, 0));
+    assert_eq!(verdict(&book, NO_LABEL), (Verdict::Contested, 1, 1, 1));
+    assert!(!book.permission(7, NO_LABEL));
+}
+
+#[test]
+fn c_already() {
+    let mut book = after_b();
+    let before = book.clone();
+    assert_eq!(book.tap(tap_a(), NO_LABEL), Ok(TapAnswer::Already(stamp(2, 0, 0))));
+    assert_eq!(book, before);
+}
+
+#[test]
+fn d_wait() {
+    assert_eq!(open(1, 3).question(7, stamp(1, 0, 0)), wait(0x01));
+}
+
+#[test]
+fn e_gossip_and_f_old() {
+    let mut book = open(1, 3);
+    let bytes = sent(&after_b());
+    assert_eq!(deliver(&mut book, &bytes), Ok((2, 2)));
+    assert_eq!(book.log().len(), 2);
+    let before = book.clone();
+    assert_eq!(deliver(&mut book, &bytes), Err(Refusal::Old));
+    assert_eq!(book, before);
+}
+
+#[test]
+fn g_waiting() {
+    let mut book = open(2, 3);
+    let ahead = tap(6, 1, 2, Tap::ACCEPT);
+    assert_eq!(book.tap(ahead, stamp(1, 0, 0)), taken(1, 0, 1));
+    assert_eq!(verdict(&book, NO_LABEL), (Verdict::Unasked, 0, 0, 0));
+    assert_eq!(book.question(7, stamp(1, 0, 1)), wait(0x05));
+    assert_eq!(book.tap(ahead, NO_LABEL), Ok(TapAnswer::Already(stamp(1, 0, 1))));
+}
+
+#[test]
+fn h_applied_by_gossip() {
+    let book = after_h();
+    assert_eq!(*book.value(), stamp(2, 0, 1));
+    assert_eq!(verdict(&book, stamp(2, 0, 1)), (Verdict::Accepted, 2, 1, 0));
+}
+
+#[test]
+fn i_label_ahead() {
+    let mut book = after_b();
+    let new = tap(5, 3, 1, Tap::ACCEPT);
+    assert_eq!(book.tap(new, stamp(3, 0, 0)), Err(Refusal::LabelAhead));
+    assert_eq!(book.question(7, stamp(3, 0, 0)), Err(Refusal::LabelAhead));
+    assert_eq!(book.tap(new, stamp(2, 0, 0)), taken(3, 0, 0));
+}
+
+#[test]
+fn j_gap() {
+    let whole = sent(&after_b());
+    let second = &whole[plain::HEAD_BYTES + plain::RECORD_BYTES..];
+    let bytes = message(0, stamp(2, 0, 0), second);
+    assert_eq!(deliver(&mut open(1, 3), &bytes), Err(Refusal::Gap));
+}
+
+#[test]
+fn k_claims_ours() {
+    let bytes = message(0, stamp(0, 1, 0), &[]);
+    assert_eq!(deliver(&mut open(1, 3), &bytes), Err(Refusal::ClaimsOurs));
+}
+
+#[test]
+fn l_crossed() {
+    let bytes = message(0, stamp(1, 1, 0), &[]);
+    assert_eq!(deliver(&mut after_h(), &bytes), Err(Refusal::Crossed));
+}
+
+#[test]
+fn m_dropped_at_once() {
+    let (mut zero, mut one) = (open(0, 2), open(1, 2));
+    zero.tap(tap_a(), NO_LABEL).unwrap();
+    assert_eq!(deliver(&mut one, &sent(&zero)), Ok((1, 1)));
+    assert!(one.log().is_empty());
+    let back = sent(&one);
+    assert_eq!(back.len(), plain::HEAD_BYTES);
+    assert_eq!(deliver(&mut zero, &back), Ok((0, 0)));
+    assert!(zero.log().is_empty());
+}
+
+#[test]
+fn n_waits_in_both_logs() {
+    let (mut zero, mut one) = (open(0, 2), open(1, 2));
+    assert_eq!(zero.tap(tap_a(), stamp(0, 9, 0)), taken(1, 9, 0));
+    assert_eq!(deliver(&mut one, &sent(&zero)), Ok((1, 0)));
+    assert_eq!(deliver(&mut zero, &sent(&one)), Ok((0, 0)));
+    assert_eq!((zero.log().len(), one.log().len()), (1, 1));
+    assert_eq!(verdict(&one, NO_LABEL).0, Verdict::Unasked);
+}
+
+#[test]
+fn o_log_room() {
+    let mut book = open(0, 2);
+    for serial in 1..LOG_ROOM as u32 {
+        book.tap(tap(0, serial, 1, Tap::ACCEPT), NO_LABEL).unwrap();
+    }
+    assert_eq!(book.log().len(), LOG_ROOM - 1);
+    assert_eq!(book.tap(tap(1, 0, 1, Tap::ACCEPT), NO_LABEL), taken(LOG_ROOM as u32, 0, 0));
+    assert_eq!(book.tap(tap(1, 1, 1, Tap::ACCEPT), NO_LABEL), Err(Refusal::NoRoom));
+}
+
+#[test]
+fn o_known_room() {
+    let (mut zero, mut one) = (open(0, 2), open(1, 2));
+    for serial in 1..KNOWN_ROOM as u32 {
+        zero.tap(tap(0, serial, 1, Tap::ACCEPT), NO_LABEL).unwrap();
+        if zero.log().len() == LOG_ROOM {
+            deliver(&mut one, &sent(&zero)).unwrap();
+            deliver(&mut zero, &sent(&one)).unwrap();
+        }
+    }
+    assert_eq!(zero.known().sum(), KNOWN_ROOM as u64 - 1);
+    let last = tap(1, 0, 1, Tap::ACCEPT);
+    assert_eq!(zero.tap(last, NO_LABEL), taken(KNOWN_ROOM as u32, 0, 0));
+    assert_eq!(zero.tap(tap(1, 1, 1, Tap::ACCEPT), NO_LABEL), Err(Refusal::Spent));
+    let already = Ok(TapAnswer::Already(stamp(KNOWN_ROOM as u32, 0, 0)));
+    assert_eq!(zero.tap(last, NO_LABEL), already);
+    assert_eq!(Book::from_words(&zero.words()), Some(zero));
+}
+
+#[test]
+fn whole_case() {
+    let mut words = vec![u64::MAX; WORDS];
+    assert_eq!(entry::open(&mut words, 0, 2), 0);
+
+    let mut tap = vec![3, 5, 0, 0, 0, 1, 7, 0, 1, 1];
+    tap.extend([0; 32]);
+    let mut output = vec![0xee; 200];
+    let first = entry::answer(&mut words, &tap, &mut output);
+    let second = entry::answer(&mut words, &[12], &mut output[first..]);
+    assert_eq!(first + second, 117);
+    assert!(output[117..].iter().all(|&byte| byte == 0xee));
+
+    let mut expected = vec![5, 0, 0, 0, 1];
+    expected.extend([0; 28]);
+    expected.extend([1, 0, 2, 0, 1, 0, 0, 0, 1]);
+    expected.extend([0; 28]);
+    expected.extend([2, 0, 0, 0, 0, 1]);
+    expected.extend([0; 32]);
+    expected.extend([5, 0, 0, 0, 1, 7, 0, 1, 1]);
+    assert_eq!(output[..117], expected);
+}
+
+#[test]
+fn short_output_changes_nothing() {
+    let mut words = open(0, 2).words();
+    let before = words.clone();
+    let mut tap = vec![3, 5, 0, 0, 0, 1, 7, 0, 1, 1];
+    tap.extend([0; 32]);
+    assert_eq!(entry::answer(&mut words, &tap, &mut [0; 32]), 0);
+    assert_eq!(entry::answer(&mut words, &[12], &mut [0; 36]), 0);
+    assert_eq!(words, before);
+}
+
+#[test]
+fn unsound_stands_before_unreadable() {
+    let mut words = open(0, 2).words();
+    let mut reply = [0; 44];
+    assert_eq!(entry::answer(&mut words, &[], &mut reply), 2);
+    assert_eq!(reply[..2], [9, 1]);
+    words[1] = 9;
+    assert_eq!(entry::answer(&mut words, &[], &mut reply), 2);
+    assert_eq!(reply[..2], [9, 11]);
+    assert_eq!(entry::answer(&mut [0; 5], &[12], &mut reply), 2);
+    assert_eq!(reply[..2], [9, 11]);
+    assert_eq!(entry::open(&mut [0; 5], 9, 9), 11);
+    assert_eq!(entry::open(&mut words, 9, 9), 2);
+}

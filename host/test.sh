@@ -1,0 +1,28 @@
+#!/bin/sh
+# usage: test.sh [ARCHIVE]
+# Tests the host's crates and the C program against the proved library, by default ../target/staticlib/libconsent.a.
+set -eu
+
+cd "$(dirname "$0")"
+archive=${1:-../target/staticlib/libconsent.a}
+if [ ! -f "$archive" ]; then
+    echo "There is no $archive. Run \`rt staticlib consent\` at the repository's top." >&2
+    exit 1
+fi
+
+# The archive is for x86-64; on another processor its calls go through the toolchain's emulator.
+if [ "$(uname -m)" = x86_64 ]; then
+    CONSENT_LIB_DIR=$(cd "$(dirname "$archive")" && pwd -P)
+else
+    ./emulated/build.sh "$archive" target/emulated
+    CONSENT_LIB_DIR=$(cd target/emulated && pwd -P)
+fi
+export CONSENT_LIB_DIR
+
+cargo test --offline --workspace
+
+mkdir -p target/c
+gcc -std=c11 -O2 -Wall -Wextra -Werror -I../include c/two_screens.c "$CONSENT_LIB_DIR/libconsent.a" -o target/c/two_screens
+target/c/two_screens >target/c/two_screens.txt
+diff c/two_screens.expected.txt target/c/two_screens.txt
+echo "The C program links the library and prints what it should."
