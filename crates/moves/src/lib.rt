@@ -118,7 +118,7 @@ pub fn merge_value(b: &mut [u64], s: &[u64])
 }
 
 // Whether the tap of w is among the first n of the words from a up to e.
-fn has_at(b: &[u64], a: usize, e: usize, n: usize, w: u64) -> bool
+pub fn has_at(b: &[u64], a: usize, e: usize, n: usize, w: u64) -> bool
     requires { ⌜ (a ≤ e) × (e ≤ length (now b)) × (n ≤ e - a) ⌝ }
     ensures { λ r. ⌜ r ≡ among (tapsAt n (mid a (e - a) (now (b .entry)))) (tapOf w) ⌝ }
 {
