@@ -1,0 +1,133 @@
+-- Laws: what an entry owes once it knows whether the lent book is sound and whether the bytes are read. Assumes nothing.
+--     owes-unsound   refusal 11, and nothing is altered
+--     owes-unread    refusal 1, and nothing is altered
+--     owes-step      what the step on the book that the slice holds gives
+use Prim.Native.Nat.{ℕ, _<_}
+use native.Mathlib.Omega.{arith}
+use mathlib.Core.Path.{_≡_, refl, sym, ap, subst, _∙_}
+use mathlib.Core.Logic.{_≢_}
+use mathlib.Core.Bool.{Bool, true, false, _&&_, cond}
+use mathlib.Core.List.{List}
+use lib.Dec.{T, ltb, ltb→lt}
+use lib.ListN.{getD}
+use Rattle.lists.specs.Facts.{and-l, and-r}
+use Rattle.stamp.specs.Parts.{partsAt, listOf}
+use Rattle.stamp.specs.Stamp.{stampFits}
+use Rattle.stamp.specs.declared.Parts.{Parts}
+use Rattle.tally.specs.Limits.{promptCount}
+use Rattle.tally.specs.Tap.{tapFits}
+use Rattle.tally.specs.declared.Tap.{Tap}
+use Rattle.wire.specs.Kinds.{Kind, shaped, tapAt, stampAt, tapKind, questionKind}
+use Rattle.wire.specs.Read.{lineOf, readable, readAs}
+use Rattle.wire.specs.Write.{Output, Meets, refuse}
+use Rattle.wire.specs.declared.Said.{Said}
+use Rattle.wire.specs.declared.Said.the-variants as said
+use Rattle.wire.specs.declared.Written.{Written}
+use Rattle.wire.specs.declared.Written.the-variants.{Refused}
+use Rattle.gossip.specs.Message.{bytesOf}
+use Rattle.meaning.specs.AnswerLaws.{ask-keeps}
+use Rattle.meaning.specs.Reply.{refusal}
+use Rattle.meaning.specs.Step.{Outcome, tapStep, ask, send}
+use Rattle.layout.specs.SoundWords.{lawful-held}
+use Rattle.layout.specs.Words.{bookOf, wordsOf, lawful}
+use Rattle.answers.specs.Lent.{Lent, Promise, onBook, heard, tapOn, questionOn, putFront, sendOn}
+use Rattle.answers.specs.LentLaws.{lentOf}
+use Rattle.answers.specs.Spoken.{spoken}
+use Rattle.answers.specs.declared.Reply as answer
+use Rattle.answers.specs.declared.Reply.the-variants as says
+
+module _ (ws : List ℕ) where
+  pub owes-unsound : lawful ws ≡ false → (o : Outcome) → Promise (onBook ws o) (says.Refused 11) ws
+  owes-unsound e o = subst (λ (l : Lent). Promise l (says.Refused 11) ws) (ap (λ (c : Bool). cond c (lentOf o) (record { reply = refusal 11; words = ws })) (sym e)) (record { answers = refl; leaves = refl })
+
+  module _ (e : lawful ws ≡ true) where
+    on-sound : (o : Outcome) → onBook ws o ≡ lentOf o
+    on-sound o = ap (λ (c : Bool). cond c (lentOf o) (record { reply = refusal 11; words = ws })) e
+
+    pub owes-unread : (c : Bool) → c ≡ false → (o : Outcome) → Promise (onBook ws (heard c (bookOf ws) o)) (says.Refused 1) ws
+    owes-unread c f o =
+        let q : onBook ws (heard c (bookOf ws) o) ≡ lentOf (record { reply = refusal 1; book = bookOf ws }) = on-sound (heard c (bookOf ws) o) ∙ ap (λ (d : Bool). lentOf (heard d (bookOf ws) o)) f in
+        record { answers = sym (ap (λ (l : Lent). l .reply) q); leaves = sym (lawful-held ws (subst T (sym e) tt) .words) ∙ sym (ap (λ (l : Lent). l .words) q) }
+
+    pub owes-step : (c : Bool) → c ≡ true → (o : Outcome) (r : answer.Reply) (w : List ℕ) → Promise (lentOf o) r w → Promise (onBook ws (heard c (bookOf ws) o)) r w
+    owes-step c f o r w p =
+        let q : onBook ws (heard c (bookOf ws) o) ≡ lentOf o = on-sound (heard c (bookOf ws) o) ∙ ap (λ (d : Bool). lentOf (heard d (bookOf ws) o)) f in
+        subst (λ (l : Lent). Promise l r w) (sym q) p
+
+-- a reader's answer tells whether the bytes are a message of the kind
+module _ (k : Kind) (bytes : List ℕ) (v : Said) (read : v ≡ readAs k bytes) where
+  cases : (c : Bool) → readable k bytes ≡ c → v ≡ cond c (k .said (lineOf k bytes)) (said.Unreadable 1)
+  unfolding readAs
+  cases c e = read ∙ ap (λ (d : Bool). cond d (k .said (lineOf k bytes)) (said.Unreadable 1)) e
+
+  pub told : v ≢ said.Unreadable 1 → (readable k bytes ≡ true) × (v ≡ k .said (lineOf k bytes))
+  told n = go (readable k bytes) refl
+    where
+      go : (c : Bool) → readable k bytes ≡ c → (readable k bytes ≡ true) × (v ≡ k .said (lineOf k bytes))
+      go true e = (e, cases true e)
+      go false e = absurd (n (cases false e))
+
+  pub untold : v ≢ k .said (lineOf k bytes) → readable k bytes ≡ false
+  untold n = go (readable k bytes) refl
+    where
+      go : (c : Bool) → readable k bytes ≡ c → readable k bytes ≡ false
+      go true e = absurd (n (cases true e))
+      go false e = e
+
+-- a tap's bytes that are read
+module _ (ws bytes : List ℕ) (t : Tap) (l : Parts) (e : lawful ws ≡ true) (read : said.Tap t l ≡ readAs (tapKind (bookOf ws .screens)) bytes) where
+  tap-told : (readable (tapKind (bookOf ws .screens)) bytes ≡ true) × (said.Tap t l ≡ (tapKind (bookOf ws .screens)) .said (lineOf (tapKind (bookOf ws .screens)) bytes))
+  tap-told = told (tapKind (bookOf ws .screens)) bytes (said.Tap t l) read (λ q. let z : _≡_ {A = ℕ} 0 1 = cc in omega arith)
+
+  tap-is : (t ≡ tapAt 1 (lineOf (tapKind (bookOf ws .screens)) bytes)) × (l ≡ partsAt 6 (lineOf (tapKind (bookOf ws .screens)) bytes))
+  unfolding tapKind
+  tap-is = let q = tap-told .1 in (cc, cc)
+
+  pub tap-fits : T (tapFits t) × T (stampFits (bookOf ws .screens) (listOf l))
+  unfolding readable tapKind
+  tap-fits =
+      let line = lineOf (tapKind (bookOf ws .screens)) bytes in
+      let kept : T (tapFits (tapAt 1 line) && stampFits (bookOf ws .screens) (stampAt 6 line)) = and-r (shaped 3 bytes) (tapFits (tapAt 1 line) && stampFits (bookOf ws .screens) (stampAt 6 line)) (subst T (sym (tap-told .0)) tt) in
+      (subst (λ (x : Tap). T (tapFits x)) (sym (tap-is .0)) (and-l (tapFits (tapAt 1 line)) (stampFits (bookOf ws .screens) (stampAt 6 line)) kept),
+      subst (λ (x : Parts). T (stampFits (bookOf ws .screens) (listOf x))) (sym (tap-is .1)) (and-r (tapFits (tapAt 1 line)) (stampFits (bookOf ws .screens) (stampAt 6 line)) kept))
+
+  pub tap-owes : (r : answer.Reply) (w : List ℕ) → Promise (lentOf (tapStep (bookOf ws) t (listOf l))) r w → Promise (tapOn ws bytes) r w
+  unfolding tapOn
+  tap-owes r w p =
+      let line = lineOf (tapKind (bookOf ws .screens)) bytes in
+      owes-step ws e (readable (tapKind (bookOf ws .screens)) bytes) (tap-told .0) (tapStep (bookOf ws) (tapAt 1 line) (stampAt 6 line)) r w
+      (subst (λ (x : Tap). Promise (lentOf (tapStep (bookOf ws) x (stampAt 6 line))) r w) (tap-is .0) (subst (λ (x : Parts). Promise (lentOf (tapStep (bookOf ws) t (listOf x))) r w) (tap-is .1) p))
+
+-- a question's bytes that are read
+module _ (ws bytes : List ℕ) (p : ℕ) (l : Parts) (e : lawful ws ≡ true) (read : said.Question p l ≡ readAs (questionKind (bookOf ws .screens)) bytes) where
+  question-told : (readable (questionKind (bookOf ws .screens)) bytes ≡ true) × (said.Question p l ≡ (questionKind (bookOf ws .screens)) .said (lineOf (questionKind (bookOf ws .screens)) bytes))
+  question-told = told (questionKind (bookOf ws .screens)) bytes (said.Question p l) read (λ q. let z : _≡_ {A = ℕ} 0 1 = cc in omega arith)
+
+  question-is : (p ≡ getD (lineOf (questionKind (bookOf ws .screens)) bytes) 1 0) × (l ≡ partsAt 2 (lineOf (questionKind (bookOf ws .screens)) bytes))
+  unfolding questionKind
+  question-is = let q = question-told .1 in (cc, cc)
+
+  pub question-fits : (p < promptCount) × T (stampFits (bookOf ws .screens) (listOf l))
+  unfolding readable questionKind
+  question-fits =
+      let line = lineOf (questionKind (bookOf ws .screens)) bytes in
+      let kept : T (ltb (getD line 1 0) promptCount && stampFits (bookOf ws .screens) (stampAt 2 line)) = and-r (shaped 4 bytes) (ltb (getD line 1 0) promptCount && stampFits (bookOf ws .screens) (stampAt 2 line)) (subst T (sym (question-told .0)) tt) in
+      (subst (λ (x : ℕ). x < promptCount) (sym (question-is .0)) (ltb→lt (getD line 1 0) promptCount (and-l (ltb (getD line 1 0) promptCount) (stampFits (bookOf ws .screens) (stampAt 2 line)) kept)),
+      subst (λ (x : Parts). T (stampFits (bookOf ws .screens) (listOf x))) (sym (question-is .1)) (and-r (ltb (getD line 1 0) promptCount) (stampFits (bookOf ws .screens) (stampAt 2 line)) kept))
+
+  pub question-owes : (r : answer.Reply) → spoken r ≡ (ask (bookOf ws) p (listOf l)) .reply → Promise (questionOn ws bytes) r ws
+  unfolding questionOn
+  question-owes r a =
+      let line = lineOf (questionKind (bookOf ws .screens)) bytes in
+      owes-step ws e (readable (questionKind (bookOf ws .screens)) bytes) (question-told .0) (ask (bookOf ws) (getD line 1 0) (stampAt 2 line)) r ws
+      (subst (λ (x : ℕ). Promise (lentOf (ask (bookOf ws) x (stampAt 2 line))) r ws) (question-is .0) (subst (λ (x : Parts). Promise (lentOf (ask (bookOf ws) p (listOf x))) r ws) (question-is .1)
+      (record { answers = a; leaves = sym (lawful-held ws (subst T (sym e) tt) .words) ∙ sym (ap wordsOf (ask-keeps (bookOf ws) p (listOf l))) })))
+
+-- what send owes
+pub send-owes-unsound : (ws out : List ℕ) → lawful ws ≡ false → Meets (sendOn ws out) (Refused 11) out
+unfolding sendOn
+send-owes-unsound ws out e = subst (λ (o : Output). Meets o (Refused 11) out) (ap (λ (c : Bool). cond c (putFront (bytesOf (send (bookOf ws))) out) (refuse 11 out)) (sym e)) (record { answers = refl; leaves = refl })
+
+pub send-owes : (ws out : List ℕ) → lawful ws ≡ true → (r : Written) (w : List ℕ) → Meets (putFront (bytesOf (send (bookOf ws))) out) r w → Meets (sendOn ws out) r w
+unfolding sendOn
+send-owes ws out e r w m = subst (λ (o : Output). Meets o r w) (ap (λ (c : Bool). cond c (putFront (bytesOf (send (bookOf ws))) out) (refuse 11 out)) (sym e)) m

@@ -1,0 +1,50 @@
+// The book on a lent slice: open, tap, question, send and gossip. Every entry judges its own arguments.
+use answers::Reply;
+use asking::ask_book;
+use layout::SCREENS;
+use opening::Opening;
+use opening::open_book;
+use requests::read_question;
+use sending::send_book;
+use soundness::sound;
+use wire::BAD;
+use wire::Said;
+use wire::Written;
+ghost use Rattle.answers.specs.Lent.{Promise, questionOn, sendOn, openOn};
+ghost use Rattle.opening.specs.Opening.{Opens};
+ghost use Rattle.wire.specs.Write.{Meets};
+
+// The lent book is unsound or of wrong length.
+const UNSOUND: u64 = 11;
+
+// The fresh book of screen i of n, or the refusal's number.
+pub fn open(b: &mut [u64], i: u64, n: u64) -> Opening
+    ensures { λ r. ⌜ Opens (openOn (now (b .entry)) i n) r (now (b .exit)) ⌝ }
+{
+    open_book(b, i, n)
+}
+
+// The book does not change: it is lent to be read only.
+pub fn question(b: &[u64], msg: &[u8]) -> Reply
+    ensures { λ r. ⌜ Promise (questionOn (now (b .entry)) (now (msg .entry))) r (now (b .entry)) ⌝ }
+{
+    if !sound(b) {
+        return Reply::Refused(UNSOUND);
+    }
+    let n = b[SCREENS] as usize;
+    let said = read_question(msg, n);
+    let Said::Question { prompt, label } = said else {
+        return Reply::Refused(BAD);
+    };
+    ask_book(b, prompt, label)
+}
+
+// The known stamp and the whole log as one gossip message at the front of out; the rest of out stays.
+pub fn send(b: &[u64], out: &mut [u8]) -> Written
+    ensures { λ r. ⌜ Meets (sendOn (now (b .entry)) (now (out .entry))) r (now (out .exit)) ⌝ }
+{
+    if !sound(b) {
+        return Written::Refused(UNSOUND);
+    }
+    send_book(b, out)
+}
