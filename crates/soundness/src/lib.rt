@@ -64,7 +64,7 @@ const LOG_ROOM: u64 = 256;
 const BOOK_ROOM: u64 = 1024;
 
 // N from 2 to 8, and the screen's number below it.
-fn in_range(i: u64, n: u64) -> bool
+pub fn in_range(i: u64, n: u64) -> bool
     ensures { λ r. ⌜ r ≡ inRange i n ⌝ }
 {
     match n {
