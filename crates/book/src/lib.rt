@@ -5,12 +5,14 @@ use layout::SCREENS;
 use opening::Opening;
 use opening::open_book;
 use requests::read_question;
+use requests::read_tap;
 use sending::send_book;
 use soundness::sound;
+use taking::take_tap;
 use wire::BAD;
 use wire::Said;
 use wire::Written;
-ghost use Rattle.answers.specs.Lent.{Promise, questionOn, sendOn, openOn};
+ghost use Rattle.answers.specs.Lent.{Promise, tapOn, questionOn, sendOn, openOn};
 ghost use Rattle.opening.specs.Opening.{Opens};
 ghost use Rattle.wire.specs.Write.{Meets};
 
@@ -22,6 +24,20 @@ pub fn open(b: &mut [u64], i: u64, n: u64) -> Opening
     ensures { λ r. ⌜ Opens (openOn (now (b .entry)) i n) r (now (b .exit)) ⌝ }
 {
     open_book(b, i, n)
+}
+
+pub fn tap(b: &mut [u64], msg: &[u8]) -> Reply
+    ensures { λ r. ⌜ Promise (tapOn (now (b .entry)) (now (msg .entry))) r (now (b .exit)) ⌝ }
+{
+    if !sound(b) {
+        return Reply::Refused(UNSOUND);
+    }
+    let n = b[SCREENS] as usize;
+    let said = read_tap(msg, n);
+    let Said::Tap { tap, label } = said else {
+        return Reply::Refused(BAD);
+    };
+    take_tap(b, tap, label)
 }
 
 // The book does not change: it is lent to be read only.

@@ -1,3 +1,7 @@
+<<<<<<< HEAD
 pub mod Opening
 pub mod FreshWords
 pub mod OpeningLaws
+=======
+pub mod Opens
+>>>>>>> taking

@@ -1,62 +1,83 @@
+-- `taking::enter` meets its contract. Assumes nothing.
+use Prim.Native.Nat.{_<_}
+use native.Mathlib.Omega.{arith}
+use mathlib.Core.Path.{sym, ap, subst, _∙_}
+use Rattle.stamp.specs.Parts.{listOf}
+use Rattle.tally.specs.Tap.{tapOf}
+use Rattle.ledger.specs.Record.{Record, stampOf}
+use Rattle.meaning.specs.BookLaws.{me-in}
+use Rattle.meaning.specs.StepLaws.{new-origin}
+use Rattle.layout.specs.Words.{bookOf}
 use borrow.Author.Needs.{needs}
+use Rattle.taking.proofs.Entered.{raised-held, raised-fresh, raised-room, put-held, put-me, put-ready, put-settled}
+use Rattle.taking.proofs.Turn.{own-small}
 use Rattle.taking.proofs.enter.Statement.{statement}
 use Rattle.taking.proofs.enter.Tie as tie
-use Rattle.taking.proofs.enter.Reads as reads
-use Rattle.taking.proofs.enter.Lts as lts
-use Rattle.moves.proofs.known_of.Reads as known-of-reads
-use Rattle.moves.proofs.settle_book.Reads as settle-book-reads
-use Rattle.taking.proofs.new_row.Reads as new-row-reads
-use Rattle.taking.proofs.put_record.Reads as put-record-reads
-use Rattle.taking.proofs.raise_own.Reads as raise-own-reads
-use Rattle.taking.proofs.stamp_parts.Reads as stamp-parts-reads
 
--- src/lib.rt:191:18
 known-of-requires : tie.Need-known-of-requires
-known-of-requires c κs = search needs
+known-of-requires c κs = let s = c .before .before in (s .pre .0, me-in (bookOf (s .args .b .now)) (s .pre .1 .sound-before))
 
--- src/lib.rt:192:15
 new-row-requires : tie.Need-new-row-requires
-new-row-requires c κs = search needs
+new-row-requires c κs =
+    let s = c .before .before .before .before in
+    (s .pre .0, (me-in (bookOf (s .args .b .now)) (s .pre .1 .sound-before), s .pre .1 .book-left))
 
--- src/lib.rt:193:18
-array-read-raise-own : tie.Need-array-read-raise-own
-array-read-raise-own c = search needs
-
--- src/lib.rt:193:5
 raise-own-requires : tie.Need-raise-own-requires
-raise-own-requires c κs = search needs
+raise-own-requires c κs =
+    let s = c .before .before .before .before .before .before in
+    (s .pre .0, me-in (bookOf (s .args .b .now)) (s .pre .1 .sound-before))
 
--- src/lib.rt:194:19
-slice-aggregate-put-record : tie.Need-slice-aggregate-put-record
-slice-aggregate-put-record c = search needs
-
--- src/lib.rt:194:5
 put-record-requires : tie.Need-put-record-requires
-put-record-requires c κs = search needs
+put-record-requires c κs =
+    let o = c .before .before .before .before in
+    let r = o .before .before in
+    let s = r .before .before .before .before .before in
+    let b = bookOf (s .args .b .now) in
+    let t = tapOf (s .args .w) in
+    let l = listOf (s .args .label) in
+    let e = r .new-row .ensures in
+    let f = o .raise-own .ensures in
+    (raised-held b t l (s .pre .1) (r .new-row .result) e _ f, (search needs, (raised-fresh b t l (s .pre .1) (r .new-row .result) e _ f, raised-room b t l (s .pre .1) (r .new-row .result) e _ f)))
 
--- src/lib.rt:195:20
-slice-aggregate-settle-book : tie.Need-slice-aggregate-settle-book
-slice-aggregate-settle-book c = search needs
-
--- src/lib.rt:195:5
 settle-book-requires : tie.Need-settle-book-requires
-settle-book-requires c κs = search needs
+settle-book-requires c κs =
+    let p = c .before .before .before .before in
+    let o = p .before .before .before .before .before in
+    let r = o .before .before in
+    let k = r .before .before in
+    let s = k .before .before .before in
+    let b = bookOf (s .args .b .now) in
+    let t = tapOf (s .args .w) in
+    let l = listOf (s .args .label) in
+    let e = r .new-row .ensures in
+    let f = o .raise-own .ensures in
+    let g = p .put-record .ensures in
+    (put-held b t l (s .pre .1) (r .new-row .result) e _ f _ g, (put-me b t l (s .pre .1) (r .new-row .result) e _ f _ g, (search needs, put-ready b t l (s .pre .1) (r .new-row .result) e _ f _ g _ (k .known-of .ensures))))
 
--- src/lib.rt:196:17
-slice-aggregate-stamp-parts : tie.Need-slice-aggregate-stamp-parts
-slice-aggregate-stamp-parts c = search needs
-
--- src/lib.rt:196:5
 stamp-parts-requires : tie.Need-stamp-parts-requires
-stamp-parts-requires c κs = search needs
+stamp-parts-requires c κs =
+    let r = c .before .before .before .before .before .before .before .before .before .before .before .before .before .before .before in
+    let s = r .before .before .before .before .before in
+    let b = bookOf (s .args .b .now) in
+    let t = tapOf (s .args .w) in
+    let l = listOf (s .args .label) in
+    (search needs, subst (λ (x : Record). x .origin < 8) (sym (r .new-row .ensures)) (omega (arith, new-origin b t l, own-small b (s .pre .1 .sound-before))))
 
--- src/lib.rt:185:1
-same-length : tie.Need-same-length
-same-length c = search needs
-
--- src/lib.rt:185:1
 returns : tie.Need-returns
-returns c = search needs
+returns c =
+    let z = c .before .before .before .before in
+    let p = z .before .before .before .before .before in
+    let o = p .before .before .before .before .before in
+    let r = o .before .before in
+    let k = r .before .before in
+    let s = k .before .before .before in
+    let b = bookOf (s .args .b .now) in
+    let t = tapOf (s .args .w) in
+    let l = listOf (s .args .label) in
+    let e = r .new-row .ensures in
+    let f = o .raise-own .ensures in
+    let g = p .put-record .ensures in
+    (z .settle-book .ensures .0 ∙ put-settled b t l (s .pre .1) (r .new-row .result) e _ f _ g _ (k .known-of .ensures), c .stamp-parts .ensures ∙ ap stampOf e)
 
 pub enter-spec : {M : Type 1} → statement M
 enter-spec =
@@ -64,13 +85,13 @@ enter-spec =
     (tie.spec
     known-of-requires
     new-row-requires
-    array-read-raise-own
+    (λ c. search needs)
     raise-own-requires
-    slice-aggregate-put-record
+    (λ c. search needs)
     put-record-requires
-    slice-aggregate-settle-book
+    (λ c. search needs)
     settle-book-requires
-    slice-aggregate-stamp-parts
+    (λ c. search needs)
     stamp-parts-requires
-    same-length
+    (λ c. search needs)
     returns)

@@ -1,21 +1,19 @@
-use borrow.Author.Needs.{needs}
+-- `taking::is_counted` meets its contract. Assumes nothing.
+use native.Mathlib.Omega.{arith}
+use Rattle.layout.specs.Words.{bookOf}
+use Rattle.moves.specs.Places.{held-long, counted-most}
 use Rattle.taking.proofs.is_counted.Statement.{statement}
 use Rattle.taking.proofs.is_counted.Tie as tie
-use Rattle.taking.proofs.is_counted.Reads as reads
-use Rattle.taking.proofs.is_counted.Lts as lts
-use Rattle.moves.proofs.has_at.Reads as has-at-reads
 
--- src/lib.rt:72:13
 shared-slice-read-n : tie.Need-shared-slice-read-n
-shared-slice-read-n c = search needs
+shared-slice-read-n c = let s = c .before .before in omega (arith, held-long (s .args .b .now) (s .pre))
 
--- src/lib.rt:73:5
 has-at-requires : tie.Need-has-at-requires
-has-at-requires c κs = search needs
+has-at-requires c κs = let s = c .before .before in omega (arith, held-long (s .args .b .now) (s .pre), counted-most (s .args .b .now) (s .pre))
 
--- src/lib.rt:68:1
 returns : tie.Need-returns
-returns c = search needs
+unfolding bookOf
+returns c = c .has-at .ensures
 
 pub is-counted-spec : {M : Type 1} → statement M
 is-counted-spec = tie.close (tie.spec shared-slice-read-n has-at-requires returns)

@@ -1,26 +1,34 @@
+-- `taking::is_spent` meets its contract. Assumes nothing.
+use Prim.Native.Nat.{_≤_}
+use mathlib.Core.Path.{ap, sym, subst, _∙_}
+use lib.Dec.{T, leb, ltb}
+use lib.ListN.{length}
+use Rattle.lists.specs.Tests.{every}
+use Rattle.stamp.specs.Limits.{parts, word}
+use Rattle.stamp.specs.Stamp.{Stamp, total}
+use Rattle.ledger.specs.Limits.{bookRoom}
+use Rattle.meaning.specs.BookLaws.{me-in}
+use Rattle.layout.specs.SoundWords.{lawful-sound, lawful-held}
+use Rattle.layout.specs.Words.{bookOf}
 use borrow.Author.Needs.{needs}
+use Rattle.taking.proofs.Turn.{known-words}
 use Rattle.taking.proofs.is_spent.Statement.{statement}
 use Rattle.taking.proofs.is_spent.Tie as tie
-use Rattle.taking.proofs.is_spent.Reads as reads
-use Rattle.taking.proofs.is_spent.Lts as lts
-use Rattle.moves.proofs.known_of.Reads as known-of-reads
-use Rattle.stamp.proofs.sum.Reads as sum-reads
 
--- src/lib.rt:116:13
 known-of-requires : tie.Need-known-of-requires
-known-of-requires c κs = search needs
+known-of-requires c κs =
+    let s = c .before in
+    (lawful-held (s .args .b .now) (s .pre), me-in (bookOf (s .args .b .now)) (lawful-sound (s .args .b .now) (s .pre)))
 
--- src/lib.rt:117:22
-slice-aggregate-sum : tie.Need-slice-aggregate-sum
-slice-aggregate-sum c = search needs
-
--- src/lib.rt:117:18
 sum-requires : tie.Need-sum-requires
-sum-requires c κs = search needs
+sum-requires c κs =
+    let k = c .before in
+    let s = k .before .before in
+    subst (λ (x : Stamp). (length x ≤ parts) × T (every (λ y. ltb y word) x)) (sym (k .known-of .ensures)) (known-words (bookOf (s .args .b .now)) (lawful-sound (s .args .b .now) (s .pre)))
 
--- src/lib.rt:112:1
 returns : tie.Need-returns
-returns c = search needs
+unfolding bookRoom
+returns c = ap (leb 1024) (c .sum .ensures ∙ ap total (c .before .before .known-of .ensures))
 
 pub is-spent-spec : {M : Type 1} → statement M
-is-spent-spec = tie.close (tie.spec known-of-requires slice-aggregate-sum sum-requires returns)
+is-spent-spec = tie.close (tie.spec known-of-requires (λ c. search needs) sum-requires returns)

@@ -1,27 +1,25 @@
+-- `taking::logged_stamp` meets its contract. Assumes nothing.
+use native.Mathlib.Omega.{arith}
+use mathlib.Core.Path.{ap, sym, subst, _∙_}
+use Prim.Native.Nat.{_<_}
+use Rattle.ledger.specs.Record.{Record, stampOf}
+use Rattle.layout.specs.SoundWords.{lawful-held}
 use borrow.Author.Needs.{needs}
+use Rattle.taking.proofs.Turn.{logged-origin}
 use Rattle.taking.proofs.logged_stamp.Statement.{statement}
 use Rattle.taking.proofs.logged_stamp.Tie as tie
-use Rattle.taking.proofs.logged_stamp.Reads as reads
-use Rattle.taking.proofs.logged_stamp.Lts as lts
-use Rattle.moves.proofs.log_row.Reads as log-row-reads
-use Rattle.taking.proofs.stamp_parts.Reads as stamp-parts-reads
 
--- src/lib.rt:107:15
 log-row-requires : tie.Need-log-row-requires
-log-row-requires c κs = search needs
+log-row-requires c κs = let s = c .before in (lawful-held (s .args .b .now) (s .pre .0), s .pre .1)
 
--- src/lib.rt:108:17
-slice-aggregate-stamp-parts : tie.Need-slice-aggregate-stamp-parts
-slice-aggregate-stamp-parts c = search needs
-
--- src/lib.rt:108:5
 stamp-parts-requires : tie.Need-stamp-parts-requires
-stamp-parts-requires c κs = search needs
+stamp-parts-requires c κs =
+    let r = c .before in
+    let s = r .before .before in
+    (search needs, subst (λ (x : Record). x .origin < 8) (sym (r .log-row .ensures)) (logged-origin (s .args .b .now) (s .pre .0) (s .args .i) (s .pre .1)))
 
--- src/lib.rt:102:1
 returns : tie.Need-returns
-returns c = search needs
+returns c = c .stamp-parts .ensures ∙ ap stampOf (c .before .before .log-row .ensures)
 
 pub logged-stamp-spec : {M : Type 1} → statement M
-logged-stamp-spec =
-    tie.close (tie.spec log-row-requires slice-aggregate-stamp-parts stamp-parts-requires returns)
+logged-stamp-spec = tie.close (tie.spec log-row-requires (λ c. search needs) stamp-parts-requires returns)

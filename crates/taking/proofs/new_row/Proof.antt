@@ -1,42 +1,42 @@
+-- `taking::new_row` meets its contract. Assumes nothing.
+use native.Mathlib.Omega.{arith}
+use mathlib.Core.Path.{ap, _∙_}
+use Rattle.stamp.specs.Laws.{part-total}
+use Rattle.stamp.specs.Stamp.{Stamp, part}
+use Rattle.ledger.specs.Limits.{bookRoom}
+use Rattle.meaning.specs.Book.{known}
+use Rattle.layout.specs.Words.{bookOf}
+use Rattle.moves.specs.Places.{held-long}
 use borrow.Author.Needs.{needs}
+use Rattle.taking.proofs.Turn.{own-part, row-made}
 use Rattle.taking.proofs.new_row.Statement.{statement}
 use Rattle.taking.proofs.new_row.Tie as tie
-use Rattle.taking.proofs.new_row.Reads as reads
-use Rattle.taking.proofs.new_row.Lts as lts
-use Rattle.log.proofs.part_at.Reads as part-at-reads
-use Rattle.moves.proofs.known_of.Reads as known-of-reads
 
--- src/lib.rt:127:13
 shared-slice-read-i : tie.Need-shared-slice-read-i
-shared-slice-read-i c = search needs
+shared-slice-read-i c = let s = c .before .before in omega (arith, held-long (s .args .b .now) (s .pre .0))
 
--- src/lib.rt:128:13
-known-of-requires : tie.Need-known-of-requires
-known-of-requires c κs = search needs
-
--- src/lib.rt:131:17
-slice-aggregate-part-at : tie.Need-slice-aggregate-part-at
-slice-aggregate-part-at c = search needs
-
--- src/lib.rt:131:9
-part-at-requires : tie.Need-part-at-requires
-part-at-requires c κs = search needs
-
--- src/lib.rt:131:9
 add-t11 : tie.Need-add-t11
-add-t11 c = search needs
+unfolding bookRoom
+add-t11 c =
+    let k = c .before .before in
+    let s = k .before .before .before in
+    let e = own-part (s .args .b .now) (k .known-of .result) (c .part-at .result) (k .known-of .ensures) (c .part-at .ensures) in
+    record { fits = omega (arith, e, part-total (known (bookOf (s .args .b .now))) ((bookOf (s .args .b .now)) .me), s .pre .1 .1) }
 
--- src/lib.rt:121:1
 returns : tie.Need-returns
-returns c = search needs
+returns c =
+    let k = c .before .before in
+    let s = k .before .before .before in
+    let e = own-part (s .args .b .now) (k .known-of .result) (c .part-at .result) (k .known-of .ensures) (c .part-at .ensures) in
+    row-made (s .args .b .now) (s .args .w) (s .args .label) (c .part-at .result) e
 
 pub new-row-spec : {M : Type 1} → statement M
 new-row-spec =
     tie.close
     (tie.spec
     shared-slice-read-i
-    known-of-requires
-    slice-aggregate-part-at
-    part-at-requires
+    (λ c κs. search needs)
+    (λ c. search needs)
+    (λ c κs. search needs)
     add-t11
     returns)

@@ -1,0 +1,4 @@
+pub mod Turn
+pub mod Found
+pub mod Lines
+pub mod Entered
