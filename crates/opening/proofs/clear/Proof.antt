@@ -1,4 +1,3 @@
-<<<<<<< HEAD
 -- `opening::clear` meets its contract: zeros so far, then as many zeros as are left.
 -- Assumes nothing.
 use mathlib.Core.Path.{_≡_, refl, sym, _∙_}
@@ -10,18 +9,6 @@ use lib.ListN.{length, take, replicate, length-set}
 use lib.Seq.{take-all}
 use borrow.Author.Needs.{needs}
 use Rattle.lists.specs.Scan.{cleared-more}
-=======
--- `opening::clear` meets its contract. The invariant: all zeros are those written up to k and those to come. Assumes nothing.
-use Prim.Native.Nat.{ℕ, _≤_, _-_}
-use native.Mathlib.Nat.{sub-zero}
-use native.Mathlib.Omega.{arith}
-use mathlib.Core.Path.{_≡_, sym, ap, _∙_}
-use mathlib.Core.List.{_++_}
-use lib.ListN.{length, take, replicate, length-set}
-use Rattle.lists.specs.Scan.{cleared-more}
-use borrow.Author.Needs.{needs}
-use Rattle.opening.proofs.Fresh.{cleared-end}
->>>>>>> taking
 use Rattle.opening.proofs.clear.Statement.{statement}
 use Rattle.opening.proofs.clear.Tie as tie
 
@@ -32,18 +19,13 @@ abbrev μ-loop : tie.MeasureT-loop
 μ-loop b₀ k₀ b k = length b - k
 
 loop-holds : tie.Need-loop-holds Inv-loop μ-loop
-<<<<<<< HEAD
 loop-holds c = (omega arith, refl, rw sub-zero)
-=======
-loop-holds c = (omega arith, omega arith, ap (λ (n : ℕ). replicate n 0) (sym (sub-zero (length (c .args .b .now)))))
->>>>>>> taking
 
 loop-less : tie.Need-loop-less Inv-loop μ-loop
 loop-less c = simp length-set (omega arith)
 
 loop-again : tie.Need-loop-again Inv-loop μ-loop
 loop-again c =
-<<<<<<< HEAD
     let l = c .before .loop in
     simp length-set (omega arith, omega arith, l .inv .2 ∙ cleared-more (l .b) (l .k) (length (c .before .before .args .b .now)) (omega arith) (omega arith))
 
@@ -52,17 +34,6 @@ returns c =
     let l = c .before .loop in
     let e : length (c .before .before .args .b .now) - l .k ≡ 0 = omega arith in
     sym (l .inv .2 ∙ rw (e, take-all (l .k) (l .b) (omega arith)) (append-nil (l .b)))
-=======
-    let l = c .before in
-    let s = l .before .args in
-    simp length-set (omega arith, omega arith, l .loop .inv .2 ∙ cleared-more (l .loop .b) (l .loop .k) (length (s .b .now)) (omega arith) (omega arith))
-
-returns : tie.Need-returns Inv-loop μ-loop
-returns c =
-    let l = c .before in
-    let s = l .before .args in
-    sym (l .loop .inv .2 ∙ cleared-end (l .loop .b) (l .loop .k) (length (s .b .now)) (omega arith) (omega arith))
->>>>>>> taking
 
 pub clear-spec : {M : Type 1} → statement M
 clear-spec =
