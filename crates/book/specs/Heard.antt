@@ -87,9 +87,10 @@ module _ (ws bytes : List ℕ) (t : Tap) (l : Parts) (e : lawful ws ≡ true) (r
   unfolding readable tapKind
   tap-fits =
       let line = lineOf (tapKind (bookOf ws .screens)) bytes in
-      let kept : T (tapFits (tapAt 1 line) && stampFits (bookOf ws .screens) (stampAt 6 line)) = and-r (shaped 3 bytes) (tapFits (tapAt 1 line) && stampFits (bookOf ws .screens) (stampAt 6 line)) (subst T (sym (tap-told .0)) tt) in
-      (subst (λ (x : Tap). T (tapFits x)) (sym (tap-is .0)) (and-l (tapFits (tapAt 1 line)) (stampFits (bookOf ws .screens) (stampAt 6 line)) kept),
-      subst (λ (x : Parts). T (stampFits (bookOf ws .screens) (listOf x))) (sym (tap-is .1)) (and-r (tapFits (tapAt 1 line)) (stampFits (bookOf ws .screens) (stampAt 6 line)) kept))
+      let kept : T (tapFits (tapAt 1 line) && stampFits (bookOf ws .screens) (stampAt 6 line)) = and-r (shaped 3 bytes) (tapFits (tapAt 1 line) && stampFits (bookOf ws .screens) (stampAt 6 line)) (subst T (sym (tap-told .0)) tt) in (
+        subst (λ (x : Tap). T (tapFits x)) (sym (tap-is .0)) (and-l (tapFits (tapAt 1 line)) (stampFits (bookOf ws .screens) (stampAt 6 line)) kept),
+        subst (λ (x : Parts). T (stampFits (bookOf ws .screens) (listOf x))) (sym (tap-is .1)) (and-r (tapFits (tapAt 1 line)) (stampFits (bookOf ws .screens) (stampAt 6 line)) kept),
+      )
 
   pub tap-owes : (r : answer.Reply) (w : List ℕ) → Promise (lentOf (tapStep (bookOf ws) t (listOf l))) r w → Promise (tapOn ws bytes) r w
   unfolding tapOn
@@ -111,9 +112,10 @@ module _ (ws bytes : List ℕ) (p : ℕ) (l : Parts) (e : lawful ws ≡ true) (r
   unfolding readable questionKind
   question-fits =
       let line = lineOf (questionKind (bookOf ws .screens)) bytes in
-      let kept : T (ltb (getD line 1 0) promptCount && stampFits (bookOf ws .screens) (stampAt 2 line)) = and-r (shaped 4 bytes) (ltb (getD line 1 0) promptCount && stampFits (bookOf ws .screens) (stampAt 2 line)) (subst T (sym (question-told .0)) tt) in
-      (subst (λ (x : ℕ). x < promptCount) (sym (question-is .0)) (ltb→lt (getD line 1 0) promptCount (and-l (ltb (getD line 1 0) promptCount) (stampFits (bookOf ws .screens) (stampAt 2 line)) kept)),
-      subst (λ (x : Parts). T (stampFits (bookOf ws .screens) (listOf x))) (sym (question-is .1)) (and-r (ltb (getD line 1 0) promptCount) (stampFits (bookOf ws .screens) (stampAt 2 line)) kept))
+      let kept : T (ltb (getD line 1 0) promptCount && stampFits (bookOf ws .screens) (stampAt 2 line)) = and-r (shaped 4 bytes) (ltb (getD line 1 0) promptCount && stampFits (bookOf ws .screens) (stampAt 2 line)) (subst T (sym (question-told .0)) tt) in (
+        subst (λ (x : ℕ). x < promptCount) (sym (question-is .0)) (ltb→lt (getD line 1 0) promptCount (and-l (ltb (getD line 1 0) promptCount) (stampFits (bookOf ws .screens) (stampAt 2 line)) kept)),
+        subst (λ (x : Parts). T (stampFits (bookOf ws .screens) (listOf x))) (sym (question-is .1)) (and-r (ltb (getD line 1 0) promptCount) (stampFits (bookOf ws .screens) (stampAt 2 line)) kept),
+      )
 
   pub question-owes : (r : answer.Reply) → spoken r ≡ (ask (bookOf ws) p (listOf l)) .reply → Promise (questionOn ws bytes) r ws
   unfolding questionOn

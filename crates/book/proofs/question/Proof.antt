@@ -44,7 +44,7 @@ returns-2 c =
     let line = lineOf k (s .msg .now) in
     owes-unread (s .b .now) (sound-now e) (readable k (s .msg .now))
     (untold k (s .msg .now) (c .before .read-question .result) (c .before .read-question .ensures)
-    (not-this (c .before .read-question .result) (k .said line) 3 _ refl tt (c .match .keys2)))
+    (not-this (c .before .read-question .result) (k .said line) 3 (0 ∷ 1 ∷ 2 ∷ 4 ∷ 5 ∷ 6 ∷ 7 ∷ 8 ∷ 9 ∷ 10 ∷ 11 ∷ 12 ∷ []) refl tt (c .match .keys2)))
     (ask (bookOf (s .b .now)) (getD line 1 0) (stampAt 2 line))
 
 ask-book-requires : tie.Need-ask-book-requires
@@ -54,7 +54,7 @@ ask-book-requires c κs =
     let e = r .before .before in
     let s = e .before .before .before .before .args in
     let f = question-fits (s .b .now) (s .msg .now) _ _ (sound-now e) (sym (c .before .said .given .1) ∙ r .read-question .ensures) in
-    (subst T (sym (sound-now e)) tt, f .0, f .1)
+    (subst T (sym (sound-now e)) tt, (f .0, f .1))
 
 returns-3 : tie.Need-returns-3
 unfolding bookOf

@@ -27,3 +27,6 @@ returns-2 c =
     let e = p .before .before in
     let s = e .before .before .before .before .args in
     send-owes (s .b .now) (s .out .now) (sound-now e) _ _ (p .send-book .ensures)
+
+pub send-spec : {M : Type 1} → statement M
+send-spec = tie.close (tie.spec (λ c κs. search needs) returns send-book-requires (λ c. search needs) returns-2)
