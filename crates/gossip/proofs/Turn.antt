@@ -1,12 +1,12 @@
 -- One turn of the pass over the records: each is compared with the one before it. Assumes nothing.
 use Prim.Native.Nat.{ℕ, zero, suc, _+_, _≤_, _<_}
 use native.Mathlib.Omega.{arith}
-use mathlib.Core.Path.{_≡_, refl, sym, ap, ap₂, subst, _∙_}
-use mathlib.Core.Bool.{Bool, true, false, _&&_, _||_, cond}
+use mathlib.Core.Path.{_≡_, refl, sym, ap, subst, _∙_}
+use mathlib.Core.Bool.{Bool, true, false, _&&_, cond}
 use mathlib.Core.List.{List, [], _∷_, map}
+use lib.Dec.{T, ltb, leb→le}
+use lib.ListN.{length, drop, drop-of-length-le}
 use borrow.Author.Tests.{lt-ltb}
-use lib.Dec.{T, eqb, ltb, leb→le}
-use lib.ListN.{length, getD, drop, drop-of-length-le}
 use Rattle.lists.specs.Facts.{all-at, is-true}
 use Rattle.lists.specs.Neighbours.{rising-next}
 use Rattle.lists.specs.Order.{keyBefore, rising}

@@ -4,16 +4,16 @@
 --     start-some       it starts there, start-none   and with no record at the end
 --     origin-rows      the rows of what is found are just the records of that origin, in order
 --     origin-records   and they hold just the message's records of that origin
-use Prim.Native.Nat.{ℕ, _+_, _-_, _*_, _≤_, _<_}
+use Prim.Native.Nat.{ℕ, _+_, _-_, _*_, _≤_}
 use native.Mathlib.Omega.{arith}
 use mathlib.Core.Path.{_≡_, refl, sym, ap, ap₂, subst, _∙_}
-use mathlib.Core.Bool.{Bool, true, false, _&&_, cond}
+use mathlib.Core.Bool.{Bool, true, false, cond}
 use mathlib.Core.List.{List, [], _∷_, _++_, map, append-assoc, append-nil}
-use borrow.Author.Tests.{eq-eqb, ne-eqb}
 use lib.Dec.{T, eqb, ltb}
-use lib.ListN.{length, getD, take, drop, length-append, length-drop, take-append-drop, drop-of-length-le}
+use lib.ListN.{length, take, drop, length-append, length-drop, take-append-drop, drop-of-length-le}
 use lib.Seq.{take-at, drop-at, length-take-le}
-use Rattle.lists.specs.Facts.{either, and-r, is-true, every-at}
+use borrow.Author.Tests.{eq-eqb, ne-eqb}
+use Rattle.lists.specs.Facts.{either, and-r, is-true}
 use Rattle.lists.specs.Neighbours.{map-rising}
 use Rattle.lists.specs.Order.{keyBefore, rising}
 use Rattle.lists.specs.Part.{mid}
@@ -23,7 +23,7 @@ use Rattle.lists.specs.Sorted.{before-cons, map-keep}
 use Rattle.lists.specs.Tests.{every, keep}
 use Rattle.stamp.specs.Stamp.{Stamp}
 use Rattle.bigendian.specs.Number.{numberFrom}
-use Rattle.ledger.specs.Record.{Record, place}
+use Rattle.ledger.specs.Record.{place}
 use Rattle.wire.specs.Kinds.{recordKind}
 use Rattle.wire.specs.Read.{lineOf, readable}
 use Rattle.gossip.specs.Message.{headLong, recordLong, countIn, partsOf, recordParts, kindIn, screensIn, stampIn, held, recordsIn, inOrder, wellFormed}

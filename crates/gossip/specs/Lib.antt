@@ -4,3 +4,5 @@ pub mod Parts
 pub mod Told
 pub mod Runs
 pub mod FindLaws
+pub mod LineLaws
+pub mod MessageLaws

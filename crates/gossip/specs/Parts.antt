@@ -1,6 +1,7 @@
 -- Laws: the records of a message as its parts, and what a reader's answer tells of the bytes. Assumes nothing.
 --     part-at      record i is the part from its own first byte
---     part-rules   a part that is readable keeps the rules of its tap and its record
+--     head-rules, part-rules
+--                  the rules that a readable head, and a readable part, keep
 --     head-told, head-untold, record-told, record-untold
 --                  bytes are readable exactly when the answer is of the kind, and its figures are then the line that they hold
 use Prim.Native.Nat.{ℕ, suc, _+_, _*_, _<_}
@@ -9,17 +10,19 @@ use native.Mathlib.Numerals.{add-one}
 use mathlib.Core.Path.{_≡_, refl, sym, ap, subst, _∙_}
 use mathlib.Core.Bool.{Bool, true, false, _&&_, cond}
 use mathlib.Core.List.{List, [], _∷_}
-use borrow.Author.Tests.{eq-eqb, ne-eqb}
-use lib.Dec.{T, eqb}
+use lib.Dec.{T, leb, eqb}
 use lib.ListN.{length, getD, take, drop}
 use lib.Seq.{drop-cons, drop-drop}
+use borrow.Author.Tests.{eq-eqb, ne-eqb}
 use Rattle.lists.specs.Part.{mid}
 use Rattle.lists.specs.RowLaws.{length-rows, rows-at}
 use Rattle.lists.specs.Facts.{and-l, and-r}
-use Rattle.stamp.specs.Stamp.{Stamp}
+use Rattle.stamp.specs.Stamp.{Stamp, stampFits}
 use Rattle.tally.specs.Tap.{tapFits, bodyFits}
+use Rattle.ledger.specs.Limits.{logRoom}
+use Rattle.ledger.specs.Message.{inRange}
 use Rattle.ledger.specs.Record.{recordFits, isKnown}
-use Rattle.wire.specs.Kinds.{Kind, headKind, recordKind, recordIn, tapAt, shaped}
+use Rattle.wire.specs.Kinds.{Kind, headKind, recordKind, recordIn, stampAt, tapAt, shaped}
 use Rattle.wire.specs.Laws.{Lawful, figures-read, lawful-head, lawful-record}
 use Rattle.wire.specs.Read.{lineOf, readable, readAs}
 use Rattle.wire.specs.Said.{figures}
@@ -63,6 +66,22 @@ module _ (k : Kind) (l : Lawful k) (named : (line : List ℕ) → numberIn (k .s
     untold : (numberIn v ≡ k .number → ⊥) → readable k bytes ≡ false
     untold n = sym told-kind ∙ ne-eqb (numberIn (readAs k bytes)) (k .number) (λ e. n (ap numberIn read ∙ e))
 
+-- the rules that a readable head keeps
+pub head-rules :
+    (bytes : List ℕ) → T (readable headKind bytes)
+    → T (inRange (getD (lineOf headKind bytes) 1 0) (getD (lineOf headKind bytes) 2 0))
+    × T (leb (getD (lineOf headKind bytes) 3 0) logRoom)
+    × T (stampFits (getD (lineOf headKind bytes) 2 0) (stampAt 4 (lineOf headKind bytes)))
+unfolding readable headKind
+head-rules bytes r =
+    let l = lineOf headKind bytes in
+    let house = inRange (getD l 1 0) (getD l 2 0) in
+    let few = leb (getD l 3 0) logRoom in
+    let fits = stampFits (getD l 2 0) (stampAt 4 l) in
+    let k = and-r (shaped 1 bytes) (house && (few && fits)) r in
+    let rest = and-r house (few && fits) k in
+    (and-l house (few && fits) k, and-l few fits rest, and-r few fits rest)
+
 module _ (bytes : List ℕ) (v : Said) (read : v ≡ readAs headKind bytes) where
   pub head-told : numberIn v ≡ 1 → T (readable headKind bytes) × (lineOf headKind bytes ≡ figures v)
   unfolding headKind
@@ -89,6 +108,9 @@ module _ (n : ℕ) (m : Stamp) (part : List ℕ) where
   unfolding readable recordKind held
   part-rules r =
       let l = lineOf (recordKind n m) part in
-      let k = and-r (shaped 2 part) (tapFits (tapAt 11 l) && (recordFits bodyFits n (recordIn l) && isKnown m (recordIn l))) r in
-      let rest = and-r (tapFits (tapAt 11 l)) (recordFits bodyFits n (recordIn l) && isKnown m (recordIn l)) k in
-      (and-l (tapFits (tapAt 11 l)) (recordFits bodyFits n (recordIn l) && isKnown m (recordIn l)) k, and-l (recordFits bodyFits n (recordIn l)) (isKnown m (recordIn l)) rest, and-r (recordFits bodyFits n (recordIn l)) (isKnown m (recordIn l)) rest)
+      let tap = tapFits (tapAt 11 l) in
+      let fits = recordFits bodyFits n (recordIn l) in
+      let known = isKnown m (recordIn l) in
+      let k = and-r (shaped 2 part) (tap && (fits && known)) r in
+      let rest = and-r tap (fits && known) k in
+      (and-l tap (fits && known) k, and-l fits known rest, and-r fits known rest)

@@ -3,22 +3,21 @@
 --     head-in          the head's values are what its reader says
 --     gossip-told      an answer of kind 1 says that the bytes are well formed, and is the head's
 --     gossip-untold    any other answer says that they are not
-use Prim.Native.Nat.{ℕ, _+_, _*_, _<_}
+use Prim.Native.Nat.{ℕ, _+_, _*_}
 use native.Mathlib.Omega.{arith}
 use mathlib.Core.Path.{_≡_, refl, sym, ap, subst, _∙_}
-use mathlib.Core.Bool.{Bool, true, false, _&&_, cond}
-use mathlib.Core.List.{List, [], _∷_}
+use mathlib.Core.Bool.{Bool, true, false, _&&_}
+use mathlib.Core.List.{List, _∷_}
 use lib.Dec.{T, eqb, eqb→eq}
-use lib.ListN.{length, getD, take}
+use lib.ListN.{length, take}
 use Rattle.lists.specs.Facts.{and-l, and-r, is-true}
 use Rattle.stamp.specs.declared.Parts.{Parts}
 use Rattle.stamp.specs.Parts.{listOf, partsAt}
 use Rattle.wire.specs.Kinds.{headKind, recordKind}
-use Rattle.wire.specs.Read.{lineOf, readable, readAs}
-use Rattle.wire.specs.Said.{figures}
+use Rattle.wire.specs.Read.{readable, readAs}
 use Rattle.wire.specs.declared.Said.{Said}
 use Rattle.wire.specs.declared.Said.the-variants as said
-use Rattle.gossip.specs.Message.{headLong, recordLong, headLine, screensIn, countIn, stampIn, recordParts, kindIn, inOrder, wellFormed, readGossip}
+use Rattle.gossip.specs.Message.{headLong, recordLong, headLine, countIn, recordParts, kindIn, inOrder, wellFormed, readGossip}
 use Rattle.gossip.specs.Parts.{numberIn, head-told}
 
 module _ (bytes : List ℕ) (w : T (wellFormed bytes)) where

@@ -8,12 +8,11 @@ use stamp::Parts;
 use wire::BAD;
 use wire::Said;
 ghost use mathlib.Core.Path.{_≡_};
-ghost use Prim.Native.Nat.{_+_, _*_, _≤_};
-ghost use lib.Dec.{ltb};
-ghost use lib.ListN.{length, getD};
-ghost use Rattle.stamp.specs.Parts.{listOf};
-ghost use Rattle.lists.specs.Order.{keyBefore};
 ghost use mathlib.Core.List.{_∷_, []};
+ghost use Prim.Native.Nat.{_+_, _*_, _≤_};
+ghost use lib.ListN.{length};
+ghost use Rattle.lists.specs.Order.{keyBefore};
+ghost use Rattle.stamp.specs.Parts.{listOf};
 ghost use Rattle.wire.specs.Kinds.{recordKind};
 ghost use Rattle.wire.specs.Read.{readAs};
 ghost use Rattle.gossip.specs.Message.{headLong, recordLong, partsOf, inOrder, readGossip};
@@ -42,8 +41,8 @@ fn comes_before(k: u64, q: u64, o: u64, r: u64) -> bool
     k < o
 }
 
-// Whether the records keep their rules and rise: each is compared with the one before it. Numbers start at 1, so that no first
-// record comes before number 0 of origin 0.
+// Whether the records keep their rules and rise: each is compared with the one before it. Numbers start at 1, so every record
+// comes after number 0 of origin 0.
 fn in_order(msg: &[u8], count: usize, n: usize, m: Parts) -> bool
     requires { ⌜ headLong + count * recordLong ≤ length (now msg) ⌝ }
     ensures { λ r. ⌜ r ≡ inOrder (recordKind n (listOf m)) (partsOf count (now (msg .entry))) ⌝ }
@@ -53,7 +52,13 @@ fn in_order(msg: &[u8], count: usize, n: usize, m: Parts) -> bool
     let mut i = 0;
     while i < count {
         let next = record_at(msg, i, n, m);
-        let Said::Record { origin, number, label: _, tap: _ } = next else {
+        let Said::Record {
+            origin,
+            number,
+            label: _,
+            tap: _,
+        } = next
+        else {
             return false;
         };
         if !comes_before(k, q, origin, number) {
@@ -74,7 +79,13 @@ pub fn read_gossip(msg: &[u8]) -> Said
         return Said::Unreadable(BAD);
     }
     let head = read_head(&msg[0..HEAD_SIZE]);
-    let Said::Head { sender, screens, count, stamp } = head else {
+    let Said::Head {
+        sender,
+        screens,
+        count,
+        stamp,
+    } = head
+    else {
         return Said::Unreadable(BAD);
     };
     let n = count as usize;
@@ -84,7 +95,12 @@ pub fn read_gossip(msg: &[u8]) -> Said
     if !in_order(msg, n, screens as usize, stamp) {
         return Said::Unreadable(BAD);
     }
-    Said::Head { sender: sender, screens: screens, count: count, stamp: stamp }
+    Said::Head {
+        sender: sender,
+        screens: screens,
+        count: count,
+        stamp: stamp,
+    }
 }
 
 fn origin_of(part: &[u8]) -> u64
@@ -134,7 +150,13 @@ pub fn records_of(msg: &[u8], origin: u8) -> &[u8]
     ensures { λ r. ⌜ (r .ptr .0 ≡ msg .entry .ptr .0) × (r .ptr .1 ≡ msg .entry .ptr .1 + startOf origin (now (msg .entry))) ⌝ }
 {
     let head = read_gossip(msg);
-    let Said::Head { sender: _, screens: _, count, stamp: _ } = head else {
+    let Said::Head {
+        sender: _,
+        screens: _,
+        count,
+        stamp: _,
+    } = head
+    else {
         return &msg[msg.len()..];
     };
     let n = count as usize;

@@ -1,9 +1,9 @@
 -- `gossip::comes_before` meets its contract. Assumes nothing.
+use native.Mathlib.Omega.{arith}
 use mathlib.Core.Path.{_≡_, refl}
 use mathlib.Core.Bool.{Bool, true, false, _&&_, _||_}
-use borrow.Author.Tests.{eq-eqb, ne-eqb, le-ltb}
 use lib.Dec.{ltb, eqb}
-use native.Mathlib.Omega.{arith}
+use borrow.Author.Tests.{eq-eqb, ne-eqb, le-ltb}
 use Rattle.gossip.proofs.comes_before.Statement.{statement}
 use Rattle.gossip.proofs.comes_before.Tie as tie
 

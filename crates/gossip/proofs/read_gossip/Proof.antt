@@ -1,8 +1,7 @@
 -- `gossip::read_gossip` meets its contract. Assumes nothing.
 use Prim.Native.Nat.{_≤_}
 use native.Mathlib.Omega.{arith}
-use mathlib.Core.Path.{_≡_, refl, sym, _∙_}
-use mathlib.Core.List.{_∷_}
+use mathlib.Core.Path.{sym, _∙_}
 use borrow.Author.Needs.{needs}
 use Rattle.wire.specs.Returns.{failed, passed}
 use Rattle.gossip.specs.Parts.{head-untold}

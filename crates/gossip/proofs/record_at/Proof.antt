@@ -1,61 +1,34 @@
-use Rattle.gossip.specs.Find.{originOf, partAt, below}
-use Rattle.lists.specs.Part.{mid}
-use mathlib.Core.Path.{_≡_, refl, sym, ap, _∙_}
-use mathlib.Core.Bool.{true, false}
+-- `gossip::record_at` meets its contract. Assumes nothing.
+use Prim.Native.Nat.{ℕ, _+_, _-_, _*_}
 use native.Mathlib.Omega.{arith}
-use Prim.Native.Nat.{ℕ, _+_, _-_, _*_, _≤_, _<_}
-use borrow.Author.Tests.{lt-ltb, le-ltb}
+use mathlib.Core.Path.{_≡_, ap, _∙_}
 use borrow.Author.Needs.{needs}
+use Rattle.lists.specs.Part.{mid}
+use Rattle.stamp.specs.Parts.{listOf}
+use Rattle.wire.specs.Kinds.{recordKind}
+use Rattle.wire.specs.Read.{readAs}
+use Rattle.gossip.specs.Message.{headLong, recordLong}
+use Rattle.gossip.specs.Find.{partAt}
 use Rattle.gossip.proofs.record_at.Statement.{statement}
 use Rattle.gossip.proofs.record_at.Tie as tie
-use Rattle.gossip.proofs.record_at.Reads as reads
-use Rattle.gossip.proofs.record_at.Lts as lts
-use Rattle.requests.proofs.read_record.Reads as read-record-reads
 
--- src/lib.rt:30:26
-mul-at : tie.Need-mul-at
-mul-at c = search needs
-
--- src/lib.rt:30:14
-add-at : tie.Need-add-at
-add-at c = search needs
-
--- src/lib.rt:31:13
-add-e : tie.Need-add-e
-add-e c = search needs
-
--- src/lib.rt:32:17
-sub-read-record : tie.Need-sub-read-record
-sub-read-record c = search needs
-
--- src/lib.rt:32:17
-part-read-record-start : tie.Need-part-read-record-start
-part-read-record-start c = search needs
-
--- src/lib.rt:32:17
-part-read-record-end : tie.Need-part-read-record-end
-part-read-record-end c = search needs
-
--- src/lib.rt:32:5
-read-record-requires : tie.Need-read-record-requires
-read-record-requires c κs = search needs
-
--- src/lib.rt:26:1
 returns : tie.Need-returns
 unfolding partAt mid
 returns c =
-    let e : 37 + c .before .before .before .args .i * 47 + 47 - (37 + c .before .before .before .args .i * 47) ≡ 47 = omega arith in
-    rw (c .read-record .ensures, e)
+    let s = c .before .before .before .args in
+    let at = headLong + s .i * recordLong in
+    let e : at + recordLong - at ≡ recordLong = omega arith in
+    c .read-record .ensures ∙ ap (λ (k : ℕ). readAs (recordKind (s .n) (listOf (s .m))) (mid at k (s .msg .now))) e
 
 pub record-at-spec : {M : Type 1} → statement M
 record-at-spec =
     tie.close
     (tie.spec
-    mul-at
-    add-at
-    add-e
-    sub-read-record
-    part-read-record-start
-    part-read-record-end
-    read-record-requires
+    (λ c. search needs)
+    (λ c. search needs)
+    (λ c. search needs)
+    (λ c. search needs)
+    (λ c. search needs)
+    (λ c. search needs)
+    (λ c κs. search needs)
     returns)

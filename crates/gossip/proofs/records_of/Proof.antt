@@ -1,15 +1,14 @@
 -- `gossip::records_of` meets its contract. Assumes nothing.
-use Prim.Native.Nat.{ℕ, _+_, _-_, _*_, _≤_}
+use Prim.Native.Nat.{ℕ, _+_, _*_, _≤_}
 use native.Mathlib.Omega.{arith}
-use mathlib.Core.Path.{_≡_, refl, sym, ap, ap₂, _∙_}
+use mathlib.Core.Path.{_≡_, refl, sym, ap₂, _∙_}
 use lib.Dec.{T}
 use lib.ListN.{length}
 use borrow.Author.Needs.{needs}
 use Rattle.lists.specs.Part.{mid}
-use Rattle.wire.specs.Kinds.{headKind}
 use Rattle.wire.specs.declared.Said.the-variants as said
 use Rattle.gossip.specs.Message.{headLong, recordLong, countIn, partsOf, recordParts, wellFormed}
-use Rattle.gossip.specs.Find.{placeOf, recordsOf, startOf}
+use Rattle.gossip.specs.Find.{placeOf}
 use Rattle.gossip.specs.FindLaws.{end-part, none-refused, start-refused, place-next, found, none-found, start-some, start-none}
 use Rattle.gossip.specs.Told.{gossip-told, gossip-untold, head-count, well-long}
 use Rattle.gossip.proofs.Answers.{no-head}
