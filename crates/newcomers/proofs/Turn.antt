@@ -1,18 +1,16 @@
 -- The records of a message one by one: what each part holds, and one turn of each pass over them. Assumes nothing.
 use Prim.Native.Nat.{ℕ, suc, _+_, _-_, _*_, _≤_, _<_}
-use native.Mathlib.Nat.{le-refl}
 use native.Mathlib.Numerals.{add-one}
 use native.Mathlib.Omega.{arith}
 use mathlib.Core.Path.{_≡_, refl, sym, ap, ap₂, subst, _∙_}
-use mathlib.Core.Bool.{Bool, true, false, not}
-use mathlib.Core.List.{List, [], _∷_, _++_, map, append-nil}
+use mathlib.Core.Bool.{true, false, not}
+use mathlib.Core.List.{List, [], _∷_, _++_, append-nil}
 use lib.Dec.{T}
-use lib.ListN.{length, getD, take, drop, length-map, List·getD-map, drop-of-length-le}
+use lib.ListN.{length, getD, take, drop, drop-of-length-le}
 use lib.Seq.{take-all, take-suc, drop-cons}
 use types.Run.{OneOf, miss}
-use Rattle.lists.specs.Facts.{and-l, every-getD, bit, is-true, keep-length}
-use Rattle.lists.specs.Order.{rising}
-use Rattle.lists.specs.Tests.{every, keep}
+use Rattle.lists.specs.Facts.{bit, is-true, keep-length}
+use Rattle.lists.specs.Tests.{keep}
 use Rattle.stamp.specs.Parts.{partsAt, listOf}
 use Rattle.stamp.specs.Stamp.{Stamp}
 use Rattle.stamp.specs.declared.Parts.{Parts}
@@ -20,7 +18,7 @@ use Rattle.tally.specs.Tap.{FitsBits, tapFits, fields, wordOf}
 use Rattle.tally.specs.WordLaws.{fits-bits}
 use Rattle.tally.specs.declared.Tap.{Tap}
 use Rattle.ledger.specs.Log.{unknowns}
-use Rattle.ledger.specs.Record.{Record, place, isKnown}
+use Rattle.ledger.specs.Record.{Record, isKnown}
 use Rattle.log.specs.Held.{climbed, climb}
 use Rattle.log_moves.specs.OrderLaws.{keep-append}
 use Rattle.wire.specs.Kinds.{Kind, recordKind, tapAt}
@@ -28,27 +26,24 @@ use Rattle.wire.specs.Read.{lineOf, readable, readAs}
 use Rattle.wire.specs.declared.Said.{Said}
 use Rattle.wire.specs.declared.Said.the-variants as said
 use Rattle.gossip.specs.Find.{partAt}
-use Rattle.gossip.specs.Message.{headLong, recordLong, countIn, kindIn, recordParts, held, recordsIn, inOrder}
-use Rattle.gossip.specs.Parts.{length-parts, part-at, record-told, part-rules}
-use Rattle.gossip.specs.Told.{well-long, well-order}
+use Rattle.gossip.specs.Message.{headLong, recordLong, countIn, kindIn, held, recordsIn, wellFormed}
+use Rattle.gossip.specs.MessageLaws.{length-records, record-held}
+use Rattle.gossip.specs.Parts.{record-told, part-rules}
+use Rattle.gossip.specs.Told.{well-long}
 use Rattle.newcomers.specs.Head.{Head, recordNo}
 
 -- the tags of all that a reader says but a record
 abbrev pub others : List ℕ
 others = 0 ∷ 2 ∷ 3 ∷ 4 ∷ 5 ∷ 6 ∷ 7 ∷ 8 ∷ 9 ∷ 10 ∷ 11 ∷ 12 ∷ []
 
-pub length-in : (bytes : List ℕ) → length (recordsIn bytes) ≡ countIn bytes
-unfolding recordsIn
-length-in bytes = length-map (recordParts bytes) (held (kindIn bytes)) ∙ length-parts (countIn bytes) bytes
-
 -- record i among all
-module _ (bytes : List ℕ) (i : ℕ) (l : i < countIn bytes) where
+module _ (bytes : List ℕ) (w : T (wellFormed bytes)) (i : ℕ) (l : i < countIn bytes) where
   at-place : getD (recordsIn bytes) i (held (kindIn bytes) []) ≡ recordNo bytes i
-  unfolding recordsIn recordNo
-  at-place = List·getD-map (held (kindIn bytes)) (recordParts bytes) i [] ∙ ap (held (kindIn bytes)) (part-at (countIn bytes) bytes i l)
+  unfolding recordNo
+  at-place = sym (record-held bytes w i l .1)
 
   inside : i < length (recordsIn bytes)
-  inside = omega (arith, length-in bytes)
+  inside = omega (arith, length-records bytes)
 
   next-in : drop i (recordsIn bytes) ≡ recordNo bytes i ∷ drop (i + 1) (recordsIn bytes)
   next-in = rw (add-one, drop-cons (recordsIn bytes) i (held (kindIn bytes) []) inside) (ap (λ (r : Record). r ∷ drop (suc i) (recordsIn bytes)) at-place)
@@ -65,11 +60,7 @@ module _ (bytes : List ℕ) (n : ℕ) (m : Stamp) (h : Head bytes n m) (i : ℕ)
   kind-in = ap₂ recordKind (h .screens) (h .stamp)
 
   readable-at : T (readable (recordKind n m) (partAt i bytes))
-  unfolding inOrder
-  readable-at =
-      let parts = and-l (every (readable (kindIn bytes)) (recordParts bytes)) (rising place (map (held (kindIn bytes)) (recordParts bytes))) (well-order bytes (h .formed)) in
-      let one = every-getD (readable (kindIn bytes)) (recordParts bytes) [] parts i (omega (arith, length-parts (countIn bytes) bytes)) in
-      subst (λ (k : Kind). T (readable k (partAt i bytes))) kind-in (subst (λ (p : List ℕ). T (readable (kindIn bytes) p)) (part-at (countIn bytes) bytes i l) one)
+  readable-at = subst (λ (k : Kind). T (readable k (partAt i bytes))) kind-in (record-held bytes (h .formed) i l .0)
 
   pub never-other :
       (v : Said) → v ≡ readAs (recordKind n m) (partAt i bytes)
@@ -93,9 +84,9 @@ module _ (bytes : List ℕ) (n : ℕ) (m : Stamp) (h : Head bytes n m) (i : ℕ)
     record-read = rw (kind-in, line-at)
 
 -- one turn of the survey, with record i at hand as r
-module _ (bytes : List ℕ) (i : ℕ) (l : i < countIn bytes) (r : Record) (e : r ≡ recordNo bytes i) where
+module _ (bytes : List ℕ) (w : T (wellFormed bytes)) (i : ℕ) (l : i < countIn bytes) (r : Record) (e : r ≡ recordNo bytes i) where
   next : drop i (recordsIn bytes) ≡ r ∷ drop (i + 1) (recordsIn bytes)
-  next = next-in bytes i l ∙ ap (λ (x : Record). x ∷ drop (i + 1) (recordsIn bytes)) (sym e)
+  next = next-in bytes w i l ∙ ap (λ (x : Record). x ∷ drop (i + 1) (recordsIn bytes)) (sym e)
 
   pub climb-more : (s : Stamp) → climb s (drop i (recordsIn bytes)) ≡ climb (climbed s r) (drop (i + 1) (recordsIn bytes))
   unfolding climb
@@ -108,7 +99,7 @@ module _ (bytes : List ℕ) (i : ℕ) (l : i < countIn bytes) (r : Record) (e : 
 
 module _ (bytes : List ℕ) (i : ℕ) (l : countIn bytes ≤ i) where
   past : drop i (recordsIn bytes) ≡ []
-  past = let e : length (recordsIn bytes) ≤ i = omega (arith, length-in bytes) in drop-of-length-le (recordsIn bytes) e
+  past = let e : length (recordsIn bytes) ≤ i = omega (arith, length-records bytes) in drop-of-length-le (recordsIn bytes) e
 
   pub climb-end : (s : Stamp) → climb s (drop i (recordsIn bytes)) ≡ s
   unfolding climb
@@ -120,19 +111,19 @@ module _ (bytes : List ℕ) (i : ℕ) (l : countIn bytes ≤ i) where
 
 -- one turn of the merge, with the last of the first k records at hand as r
 pub all-left : (bytes : List ℕ) (known : Stamp) (k : ℕ) → countIn bytes ≡ k → unknowns known (take k (recordsIn bytes)) ≡ unknowns known (recordsIn bytes)
-all-left bytes known k e = let h : length (recordsIn bytes) ≤ k = omega (arith, length-in bytes) in ap (unknowns known) (take-all k (recordsIn bytes) h)
+all-left bytes known k e = let h : length (recordsIn bytes) ≤ k = omega (arith, length-records bytes) in ap (unknowns known) (take-all k (recordsIn bytes) h)
 
 pub none-left : (bytes : List ℕ) (known : Stamp) (k : ℕ) → k ≤ 0 → unknowns known (take k (recordsIn bytes)) ≡ []
 unfolding unknowns
 none-left bytes known k h = let e : k ≡ 0 = omega arith in rw e
 
-module _ (bytes : List ℕ) (k : ℕ) (some : 0 < k) (l : k ≤ countIn bytes) (r : Record) (e : r ≡ recordNo bytes (k - 1)) (known : Stamp) where
+module _ (bytes : List ℕ) (w : T (wellFormed bytes)) (k : ℕ) (some : 0 < k) (l : k ≤ countIn bytes) (r : Record) (e : r ≡ recordNo bytes (k - 1)) (known : Stamp) where
   split : unknowns known (take k (recordsIn bytes)) ≡ unknowns known (take (k - 1) (recordsIn bytes)) ++ unknowns known (r ∷ [])
   unfolding unknowns
   split =
       let back : k ≡ suc (k - 1) = omega arith in
       let f : take k (recordsIn bytes) ≡ take (k - 1) (recordsIn bytes) ++ (r ∷ []) =
-      ap (λ (j : ℕ). take j (recordsIn bytes)) back ∙ last-in bytes (k - 1) (omega arith) ∙ ap (λ (x : Record). take (k - 1) (recordsIn bytes) ++ (x ∷ [])) (sym e) in
+      ap (λ (j : ℕ). take j (recordsIn bytes)) back ∙ last-in bytes w (k - 1) (omega arith) ∙ ap (λ (x : Record). take (k - 1) (recordsIn bytes) ++ (x ∷ [])) (sym e) in
       ap (keep (λ x. not (isKnown known x))) f ∙ keep-append (λ x. not (isKnown known x)) (take (k - 1) (recordsIn bytes)) (r ∷ [])
 
   pub skip-known : isKnown known r ≡ true → unknowns known (take k (recordsIn bytes)) ≡ unknowns known (take (k - 1) (recordsIn bytes))

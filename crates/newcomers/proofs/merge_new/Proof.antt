@@ -1,27 +1,18 @@
 -- `newcomers::merge_new` meets its contract. Assumes nothing.
-use Prim.Native.Nat.{ℕ, _+_, _-_, _*_, _≤_, _<_}
+use Prim.Native.Nat.{ℕ, _+_, _-_, _≤_, _<_}
 use native.Mathlib.Omega.{arith}
 use mathlib.Core.Path.{_≡_, refl, sym, ap, subst, _∙_}
-use mathlib.Core.Bool.{Bool, not}
 use mathlib.Core.List.{List, [], _∷_, _++_}
-use lib.ListN.{length, take, drop, length-append}
-use Rattle.lists.specs.Facts.{bit}
-use Rattle.stamp.specs.Parts.{listOf}
+use lib.ListN.{length, take, length-append}
 use Rattle.ledger.specs.Log.{unknowns}
-use Rattle.ledger.specs.Record.{Record, isKnown}
-use Rattle.log.specs.Region.{recordAt, recordsAt, rowLong}
-use Rattle.log.specs.Held.{climb}
+use Rattle.ledger.specs.Record.{Record}
+use Rattle.log.specs.Region.{recordAt, rowLong}
 use Rattle.log_moves.specs.Merging.{Merging, merging-start, merging-turn, merging-end}
-use Rattle.gossip.specs.Message.{countIn, recordsIn}
-use Rattle.newcomers.proofs.Turn.{length-in, part-inside, never-other, tap-bits, record-read, climb-more, new-more, climb-end, new-end, all-left, none-left, skip-known, last-new}
+use Rattle.gossip.specs.Message.{recordsIn}
+use Rattle.newcomers.proofs.Turn.{all-left, none-left, skip-known, last-new}
 use borrow.Author.Needs.{needs}
 use Rattle.newcomers.proofs.merge_new.Statement.{statement}
 use Rattle.newcomers.proofs.merge_new.Tie as tie
-use Rattle.newcomers.proofs.merge_new.Reads as reads
-use Rattle.newcomers.proofs.merge_new.Lts as lts
-use Rattle.log.proofs.is_known.Reads as is-known-reads
-use Rattle.log_moves.proofs.slide_in.Reads as slide-in-reads
-use Rattle.newcomers.proofs.row_for.Reads as row-for-reads
 
 abbrev Inv-loop : tie.InvT-loop
 Inv-loop r₀ logged new msg count n m known i₀ gap₀ k₀ r i gap k =
@@ -42,7 +33,7 @@ came c =
     let l = f .before .before in
     let a = l .before .before .before .before in
     let s = a .args in
-    last-new (s .msg .now) (l .loop .k) (f .before .loop-test .taken) (omega (arith, a .pre .1 .0, l .loop .inv .0)) (recordAt (f .row-for .result)) (f .row-for .ensures) (s .known .now) (sym (c .before .is-known .ensures) ∙ c .if1 .left)
+    last-new (s .msg .now) (a .pre .0 .formed) (l .loop .k) (f .before .loop-test .taken) (omega (arith, a .pre .1 .0, l .loop .inv .0)) (recordAt (f .row-for .result)) (f .row-for .ensures) (s .known .now) (sym (c .before .is-known .ensures) ∙ c .if1 .left)
 
 -- so the gap has a row for it
 one-left : (c : tie.Else1 Inv-loop μ-loop) → let l = c .before .before .before .before .before in let s = l .before .before .before .before .args in
@@ -52,7 +43,6 @@ one-left c =
     let s = l .before .before .before .before .args in
     l .loop .inv .3 ∙ ap length (came c) ∙ length-append (unknowns (s .known .now) (take (l .loop .k - 1) (recordsIn (s .msg .now)))) _
 
--- src/lib.rt:95:5
 loop-holds : tie.Need-loop-holds Inv-loop μ-loop
 loop-holds c =
     let a = c .before .before .before in
@@ -67,27 +57,6 @@ loop-holds c =
       omega arith,
     )
 
--- src/lib.rt:96:9
-sub-k : tie.Need-sub-k Inv-loop μ-loop
-sub-k c = search needs
-
--- src/lib.rt:97:19
-row-for-requires : tie.Need-row-for-requires Inv-loop μ-loop
-row-for-requires c κs = search needs
-
--- src/lib.rt:98:21
-slice-aggregate-is-known : tie.Need-slice-aggregate-is-known Inv-loop μ-loop
-slice-aggregate-is-known c = search needs
-
--- src/lib.rt:98:12
-is-known-requires : tie.Need-is-known-requires Inv-loop μ-loop
-is-known-requires c κs = search needs
-
--- src/lib.rt:95:5
-loop-less : tie.Need-loop-less Inv-loop μ-loop
-loop-less c = search needs
-
--- src/lib.rt:95:5
 loop-again : tie.Need-loop-again Inv-loop μ-loop
 loop-again c =
     let f = c .before .before .before in
@@ -95,7 +64,7 @@ loop-again c =
     let a = l .before .before .before .before in
     let s = a .args in
     let k = l .loop .k in
-    let e = skip-known (s .msg .now) k (f .before .loop-test .taken) (omega (arith, a .pre .1 .0, l .loop .inv .0)) (recordAt (f .row-for .result)) (f .row-for .ensures) (s .known .now) (sym (c .before .is-known .ensures) ∙ c .if1 .taken) in (
+    let e = skip-known (s .msg .now) (a .pre .0 .formed) k (f .before .loop-test .taken) (omega (arith, a .pre .1 .0, l .loop .inv .0)) (recordAt (f .row-for .result)) (f .row-for .ensures) (s .known .now) (sym (c .before .is-known .ensures) ∙ c .if1 .taken) in (
       omega arith,
       l .loop .inv .1,
       subst (λ (rs : List Record). Merging (unknowns (s .known .now) (recordsIn (s .msg .now))) (s .logged) (s .new) (s .r .now) rs (l .loop .i) (l .loop .gap) (l .loop .r)) e (l .loop .inv .2),
@@ -104,11 +73,6 @@ loop-again c =
       l .loop .inv .5,
     )
 
--- src/lib.rt:101:33
-slice-aggregate-slide-in : tie.Need-slice-aggregate-slide-in Inv-loop μ-loop
-slice-aggregate-slide-in c = search needs
-
--- src/lib.rt:101:9
 slide-in-requires : tie.Need-slide-in-requires Inv-loop μ-loop
 slide-in-requires c κs =
     let t = c .before .before in
@@ -118,17 +82,11 @@ slide-in-requires c κs =
     let n = one-left t in
     ((omega arith, omega (arith, l .loop .inv .1, l .loop .inv .4, l .loop .inv .5, a .pre .1 .1 .0 .1), row-long (c .before .before .before .before)), l .loop .inv .2 .fresh .sorted)
 
--- src/lib.rt:102:9
 sub-gap : tie.Need-sub-gap Inv-loop μ-loop
 sub-gap c =
     let d = c .before .before in
     omega (arith, one-left (d .before .before .before))
 
--- src/lib.rt:95:5
-loop-less-2 : tie.Need-loop-less-2 Inv-loop μ-loop
-loop-less-2 c = search needs
-
--- src/lib.rt:95:5
 loop-again-2 : tie.Need-loop-again-2 Inv-loop μ-loop
 loop-again-2 c =
     let d = c .before .before in
@@ -148,11 +106,6 @@ loop-again-2 c =
       turned .fewer,
     )
 
--- src/lib.rt:77:1
-same-length : tie.Need-same-length Inv-loop μ-loop
-same-length c = search needs
-
--- src/lib.rt:77:1
 returns : tie.Need-returns Inv-loop μ-loop
 returns c =
     let l = c .before in
@@ -170,16 +123,16 @@ merge-new-spec =
     Inv-loop
     μ-loop
     loop-holds
-    sub-k
-    row-for-requires
-    slice-aggregate-is-known
-    is-known-requires
-    loop-less
+    (λ c. search needs)
+    (λ c κs. search needs)
+    (λ c. search needs)
+    (λ c κs. search needs)
+    (λ c. search needs)
     loop-again
-    slice-aggregate-slide-in
+    (λ c. search needs)
     slide-in-requires
     sub-gap
-    loop-less-2
+    (λ c. search needs)
     loop-again-2
-    same-length
+    (λ c. search needs)
     returns)
