@@ -1,3 +1,1 @@
-pub mod Refusals
-pub mod Taken
 pub mod Heard

@@ -2,9 +2,12 @@
 use gossip::record_at;
 use log::ROW;
 use log::climb_row;
+use log::first_at_most;
 use log::is_known;
 use log_moves::slide_in;
 use stamp::Parts;
+use stamp::list_of;
+use stamp::parts_at;
 use tally::pack;
 use wire::Said;
 ghost use mathlib.Core.Path.{_≡_};
@@ -15,8 +18,8 @@ ghost use Rattle.lists.specs.Facts.{bit};
 ghost use Rattle.stamp.specs.Parts.{listOf};
 ghost use Rattle.ledger.specs.Log.{unknowns};
 ghost use Rattle.ledger.specs.Record.{isKnown};
-ghost use Rattle.log.specs.Region.{rowLong, recordAt, recordsAt};
-ghost use Rattle.log.specs.Held.{climb};
+ghost use Rattle.log.specs.Region.{rowLong, stampLong, recordAt, recordsAt};
+ghost use Rattle.log.specs.Held.{climb, holdsAll};
 ghost use Rattle.log_moves.specs.Merge.{Fresh, merged};
 ghost use Rattle.gossip.specs.Message.{countIn, recordsIn};
 ghost use Rattle.newcomers.specs.Head.{Head, recordNo};
@@ -71,6 +74,29 @@ pub fn survey(msg: &[u8], count: usize, n: usize, m: Parts, known: &[u64], reach
         i += 1;
     }
     new
+}
+
+// What the records come to under a known stamp: whether each that m counts is known or there, and how many are new.
+pub struct Look {
+    pub whole: bool,
+    pub new: usize,
+}
+
+// The records looked at for a house of n screens.
+pub fn look_at(msg: &[u8], count: usize, n: usize, m: Parts, known: &[u64]) -> Look
+    requires { ⌜ Head (now msg) n (listOf m) ⌝ }
+    requires { ⌜ countIn (now msg) ≡ count ⌝ }
+    requires { ⌜ (length (now known) ≡ stampLong) × (n ≤ stampLong) ⌝ }
+    ensures { λ r. ⌜ r .whole ≡ holdsAll n (now (known .entry)) (listOf m) (recordsIn (now (msg .entry))) ⌝ }
+    ensures { λ r. ⌜ (r .new ≡ length (unknowns (now (known .entry)) (recordsIn (now (msg .entry))))) × (r .new ≤ count) ⌝ }
+{
+    let mut reached = list_of(parts_at(known, 0));
+    let new = survey(msg, count, n, m, known, &mut reached);
+    let s = list_of(m);
+    Look {
+        whole: first_at_most(&s, &reached, n),
+        new: new,
+    }
 }
 
 // The records that are not known under a stamp, merged into the first rows of the log's region over a gap of as many rows behind
