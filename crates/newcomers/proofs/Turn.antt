@@ -4,32 +4,35 @@ use native.Mathlib.Numerals.{add-one}
 use native.Mathlib.Omega.{arith}
 use mathlib.Core.Path.{_≡_, refl, sym, ap, ap₂, subst, _∙_}
 use mathlib.Core.Bool.{true, false, not}
-use mathlib.Core.List.{List, [], _∷_, _++_, append-nil}
-use lib.Dec.{T}
+use mathlib.Core.List.{List, [], _∷_, _++_, map, append-nil}
+use lib.Dec.{T, leb}
 use lib.ListN.{length, getD, take, drop, drop-of-length-le}
 use lib.Seq.{take-all, take-suc, drop-cons}
 use types.Run.{OneOf, miss}
-use Rattle.lists.specs.Facts.{bit, is-true, keep-length}
-use Rattle.lists.specs.Tests.{keep}
+use Rattle.lists.specs.Facts.{and-r, bit, is-true, keep-length}
+use Rattle.lists.specs.Order.{rising}
+use Rattle.lists.specs.Tests.{allBelow, every, keep}
 use Rattle.stamp.specs.Parts.{partsAt, listOf}
-use Rattle.stamp.specs.Stamp.{Stamp}
+use Rattle.stamp.specs.PartsLaws.{list-parts}
+use Rattle.stamp.specs.Stamp.{Stamp, part}
 use Rattle.stamp.specs.declared.Parts.{Parts}
 use Rattle.tally.specs.Tap.{FitsBits, tapFits, fields, wordOf}
 use Rattle.tally.specs.WordLaws.{fits-bits}
 use Rattle.tally.specs.declared.Tap.{Tap}
 use Rattle.ledger.specs.Log.{unknowns}
-use Rattle.ledger.specs.Record.{Record, isKnown}
-use Rattle.log.specs.Held.{climbed, climb}
+use Rattle.ledger.specs.Record.{Record, place, isKnown}
+use Rattle.log.specs.Region.{stampLong}
+use Rattle.log.specs.Held.{climbed, climb, holdsAll, climb-holds}
 use Rattle.log_moves.specs.OrderLaws.{keep-append}
 use Rattle.wire.specs.Kinds.{Kind, recordKind, tapAt}
 use Rattle.wire.specs.Read.{lineOf, readable, readAs}
 use Rattle.wire.specs.declared.Said.{Said}
 use Rattle.wire.specs.declared.Said.the-variants as said
 use Rattle.gossip.specs.Find.{partAt}
-use Rattle.gossip.specs.Message.{headLong, recordLong, countIn, kindIn, held, recordsIn, wellFormed}
+use Rattle.gossip.specs.Message.{headLong, recordLong, countIn, kindIn, recordParts, held, recordsIn, inOrder, wellFormed}
 use Rattle.gossip.specs.MessageLaws.{length-records, record-held}
 use Rattle.gossip.specs.Parts.{record-told, part-rules}
-use Rattle.gossip.specs.Told.{well-long}
+use Rattle.gossip.specs.Told.{well-long, well-order}
 use Rattle.newcomers.specs.Head.{Head, recordNo}
 
 -- the tags of all that a reader says but a record
@@ -133,3 +136,14 @@ module _ (bytes : List ℕ) (w : T (wellFormed bytes)) (k : ℕ) (some : 0 < k) 
   pub last-new : isKnown known r ≡ false → unknowns known (take k (recordsIn bytes)) ≡ unknowns known (take (k - 1) (recordsIn bytes)) ++ (r ∷ [])
   unfolding unknowns
   last-new t = split ∙ rw t
+
+-- no number is missing: the climb from a copy of the known stamp reaches m
+pub look-whole :
+    (bytes : List ℕ) → T (wellFormed bytes) → (n : ℕ) (known m s reached : Stamp) → (length known ≡ stampLong) × (n ≤ stampLong) → s ≡ m
+    → reached ≡ climb (listOf (partsAt 0 known)) (recordsIn bytes) → allBelow n (λ k. leb (part s k) (part reached k)) ≡ holdsAll n known m (recordsIn bytes)
+unfolding inOrder recordsIn
+look-whole bytes w n known m s reached h e f =
+    let order = and-r (every (readable (kindIn bytes)) (recordParts bytes)) (rising place (map (held (kindIn bytes)) (recordParts bytes))) (well-order bytes w) in
+    let eight : 0 + 8 ≤ length known = omega (arith, h .0) in
+    let copy : listOf (partsAt 0 known) ≡ known = list-parts 0 known eight ∙ take-all 8 known (omega (arith, h .0)) in
+    rw (e, f, copy) (sym (climb-holds n known m (recordsIn bytes) order (omega (arith, h .0, h .1))))

@@ -1,3 +1,19 @@
+-- `gossip_moves::merge_at` meets its contract. Assumes nothing.
+use Prim.Native.Nat.{ℕ, _+_, _-_, _*_, _≤_, _<_}
+use native.Mathlib.Omega.{arith}
+use mathlib.Core.Path.{_≡_, refl, sym, ap, subst, _∙_}
+use mathlib.Core.List.{List, [], _∷_, _++_}
+use lib.ListN.{length, getD, set, take, drop}
+use Rattle.lists.specs.Part.{mid, patch, length-mid}
+use Rattle.stamp.specs.Parts.{listOf}
+use Rattle.stamp.specs.Stamp.{Stamp, merge}
+use Rattle.ledger.specs.Log.{unknowns}
+use Rattle.log.specs.Region.{rowLong, stampLong}
+use Rattle.gossip.specs.Message.{recordsIn}
+use Rattle.layout.specs.Words.{bookOf}
+use Rattle.moves.specs.Places.{held-long, screens-most, log-count}
+use Rattle.gossip_moves.specs.Taken.{rowMerged}
+use Rattle.gossip_moves.proofs.Put.{row-raised, first-held, own-row, rows-raised, log-taken}
 use borrow.Author.Needs.{needs}
 use Rattle.gossip_moves.proofs.merge_at.Statement.{statement}
 use Rattle.gossip_moves.proofs.merge_at.Tie as tie
@@ -23,7 +39,13 @@ part-merge-new-end c = search needs
 
 -- src/lib.rt:199:5
 merge-new-requires : tie.Need-merge-new-requires
-merge-new-requires c κs = search needs
+unfolding mid
+merge-new-requires c κs =
+    let s = c .before .before .before .before in
+    let w = s .args in
+    let k = s .pre .1 .0 in
+    let long : length (take (w .e - w .a) (drop (w .a) (w .b .now))) ≡ w .e - w .a = length-mid (w .a) (w .e - w .a) (w .b .now) (omega (arith, s .pre .0)) in
+    (k .head, (k .number, ((k .new-number, omega (arith, long, s .pre .0)), s .pre .1 .1)))
 
 -- src/lib.rt:182:1
 same-length : tie.Need-same-length
@@ -31,7 +53,8 @@ same-length c = search needs
 
 -- src/lib.rt:182:1
 returns : tie.Need-returns
-returns c = search needs
+unfolding mid patch
+returns c = rw (c .before .before .merge-new .ensures)
 
 pub merge-at-spec : {M : Type 1} → statement M
 merge-at-spec =

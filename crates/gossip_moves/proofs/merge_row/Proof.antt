@@ -1,3 +1,19 @@
+-- `gossip_moves::merge_row` meets its contract. Assumes nothing.
+use Prim.Native.Nat.{ℕ, _+_, _-_, _*_, _≤_, _<_}
+use native.Mathlib.Omega.{arith}
+use mathlib.Core.Path.{_≡_, refl, sym, ap, subst, _∙_}
+use mathlib.Core.List.{List, [], _∷_, _++_}
+use lib.ListN.{length, getD, set, take, drop}
+use Rattle.lists.specs.Part.{mid, patch, length-mid}
+use Rattle.stamp.specs.Parts.{listOf}
+use Rattle.stamp.specs.Stamp.{Stamp, merge}
+use Rattle.ledger.specs.Log.{unknowns}
+use Rattle.log.specs.Region.{rowLong, stampLong}
+use Rattle.gossip.specs.Message.{recordsIn}
+use Rattle.layout.specs.Words.{bookOf}
+use Rattle.moves.specs.Places.{held-long, screens-most, log-count}
+use Rattle.gossip_moves.specs.Taken.{rowMerged}
+use Rattle.gossip_moves.proofs.Put.{row-raised, first-held, own-row, rows-raised, log-taken}
 use borrow.Author.Needs.{needs}
 use Rattle.gossip_moves.proofs.merge_row.Statement.{statement}
 use Rattle.gossip_moves.proofs.merge_row.Tie as tie
@@ -39,7 +55,11 @@ same-length c = search needs
 
 -- src/lib.rt:144:1
 returns : tie.Need-returns
-returns c = search needs
+unfolding rowMerged mid patch
+returns c =
+    let at = c .before .before .before .before .before .before .args .j * stampLong in
+    let e : at + stampLong - at ≡ stampLong = omega arith in
+    rw (c .before .before .merge-into .ensures, e)
 
 pub merge-row-spec : {M : Type 1} → statement M
 merge-row-spec =
