@@ -1,7 +1,7 @@
 -- Laws: the refusals' number is what the stops of a gossip come to. Assumes nothing.
---     stopped      a number other than zero: the refusal of that number, and the book stays
---     unstopped    zero: the gossip is done
---     same-house   past the refusals by the stamp the message is of this house, and from another screen
+--     stamp-stops, records-stop   a number other than zero: the refusal of that number, and the book stays
+--     unstopped                   zero: the gossip is done
+--     same-house                  past the refusals by the stamp the message is of this house, and from another screen
 use Prim.Native.Nat.{ℕ, zero, suc, _+_}
 use native.Mathlib.Omega.{arith}
 use mathlib.Core.Path.{_≡_, refl, ap, _∙_}
@@ -45,10 +45,10 @@ cascade false false true false false true false = refl
 
 module _ (b : Book) (m : Message) (s : T (sound b)) (f : T (messageFits bodyFits m)) where
   -- the refusals by the stamp, then those by the records
-  abbrev pub refusalNo : ℕ
-  refusalNo = unless (stampRefusal b (m .sender) (m .screens) (m .stamp)) (recordRefusal b m)
+  abbrev first : ℕ
+  first = stampRefusal b (m .sender) (m .screens) (m .stamp)
 
-  stops-number : firstOf (gossipStops b m) ≡ refusalOf refusalNo
+  stops-number : firstOf (gossipStops b m) ≡ refusalOf (unless first (recordRefusal b m))
   unfolding gossipStops stampRefusal rowRefusal ownRefusal recordRefusal
   stops-number =
       rw (is-true (sound b) s, is-true (messageFits bodyFits m) f)
@@ -56,16 +56,23 @@ module _ (b : Book) (m : Message) (s : T (sound b)) (f : T (messageFits bodyFits
       (ltb (part (known b) (b .me)) (part (m .stamp) (b .me))) (ltb bookRoom (total (merge (known b) (m .stamp)))) (gapless (b .screens) (known b) m)
       (ltb logRoom (length (b .log) + length (newOnes b m))))
 
-  pub stopped : (k : ℕ) → refusalNo ≡ k → k ≢ 0 → gossipStep b m ≡ record { reply = refusal k; book = b }
+  refuses : (k : ℕ) → unless first (recordRefusal b m) ≡ suc k → gossipStep b m ≡ record { reply = refusal (suc k); book = b }
   unfolding gossipStep
-  stopped zero e n = absurd (n refl)
-  stopped (suc k) e n = ap (stopOr b (gossip-out b m)) (stops-number ∙ ap refusalOf e)
+  refuses k e = ap (stopOr b (gossip-out b m)) (stops-number ∙ ap refusalOf e)
 
-  pub unstopped : refusalNo ≡ 0 → GossipDone b m × (gossipStep b m ≡ gossip-out b m)
-  unstopped e =
-      either (gossip-cases b m)
-      (λ w. clash (w .1 .0 .0) (w .1 .2) (every-at (λ c. not (c .0)) (gossipStops b m) (firstOf-none (gossipStops b m) (stops-number ∙ ap refusalOf e)) (w .1 .1)))
-      (λ w. w)
+  pub stamp-stops : (k : ℕ) → stampRefusal b (m .sender) (m .screens) (m .stamp) ≡ k → k ≢ 0 → gossipStep b m ≡ record { reply = refusal k; book = b }
+  stamp-stops zero e n = absurd (n refl)
+  stamp-stops (suc k) e n = refuses k (ap (λ (x : ℕ). unless x (recordRefusal b m)) e)
+
+  module _ (z : stampRefusal b (m .sender) (m .screens) (m .stamp) ≡ 0) where
+    pub records-stop : (k : ℕ) → recordRefusal b m ≡ suc k → gossipStep b m ≡ record { reply = refusal (suc k); book = b }
+    records-stop k e = refuses k (ap (λ (x : ℕ). unless x (recordRefusal b m)) z ∙ e)
+
+    pub unstopped : recordRefusal b m ≡ 0 → GossipDone b m × (gossipStep b m ≡ gossip-out b m)
+    unstopped e =
+        either (gossip-cases b m)
+        (λ w. clash (w .1 .0 .0) (w .1 .2) (every-at (λ c. not (c .0)) (gossipStops b m) (firstOf-none (gossipStops b m) (stops-number ∙ ap (λ (x : ℕ). refusalOf (unless x (recordRefusal b m))) z ∙ ap refusalOf e)) (w .1 .1)))
+        (λ w. w)
 
 pub same-house : (b : Book) (j n : ℕ) (m : Stamp) → stampRefusal b j n m ≡ 0 → (n ≡ b .screens) × (j ≢ b .me)
 unfolding stampRefusal
