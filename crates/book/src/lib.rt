@@ -1,6 +1,8 @@
 // The book on a lent slice: open, tap, question, send and gossip. Every entry judges its own arguments.
 use answers::Reply;
 use asking::ask_book;
+use gossip::read_gossip;
+use gossiping::take_gossip;
 use layout::SCREENS;
 use opening::Opening;
 use opening::open_book;
@@ -12,7 +14,7 @@ use taking::take_tap;
 use wire::BAD;
 use wire::Said;
 use wire::Written;
-ghost use Rattle.answers.specs.Lent.{Promise, tapOn, questionOn, sendOn, openOn};
+ghost use Rattle.answers.specs.Lent.{Promise, tapOn, questionOn, gossipOn, sendOn, openOn};
 ghost use Rattle.opening.specs.Opening.{Opens};
 ghost use Rattle.wire.specs.Write.{Meets};
 
@@ -63,4 +65,17 @@ pub fn send(b: &[u64], out: &mut [u8]) -> Written
         return Written::Refused(UNSOUND);
     }
     send_book(b, out)
+}
+
+pub fn gossip(b: &mut [u64], msg: &[u8]) -> Reply
+    ensures { λ r. ⌜ Promise (gossipOn (now (b .entry)) (now (msg .entry))) r (now (b .exit)) ⌝ }
+{
+    if !sound(b) {
+        return Reply::Refused(UNSOUND);
+    }
+    let said = read_gossip(msg);
+    let Said::Head { sender, screens, count, stamp } = said else {
+        return Reply::Refused(BAD);
+    };
+    take_gossip(b, msg, sender, screens, count, stamp)
 }

@@ -59,7 +59,7 @@ map-twice f g (x ∷ xs) = ap (λ l. f (g x) ∷ l) (map-twice f g xs)
 
 -- bytes that are well formed hold a message that keeps every rule
 module _ (bytes : List ℕ) where
-  length-records : length (recordsIn bytes) ≡ countIn bytes
+  pub length-records : length (recordsIn bytes) ≡ countIn bytes
   unfolding recordsIn
   length-records = length-map (recordParts bytes) (held (kindIn bytes)) ∙ length-parts (countIn bytes) bytes
 

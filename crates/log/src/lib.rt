@@ -231,7 +231,7 @@ fn raise(reached: u64, q: u64) -> u64
 }
 
 // An origin past the stamp's parts raises none.
-fn climb_row(row: &[u64], reached: &mut [u64])
+pub fn climb_row(row: &[u64], reached: &mut [u64])
     requires { ⌜ length (now row) ≡ rowLong ⌝ }
     ensures { λ _. ⌜ (now (reached .exit) ≡ climbed (now (reached .entry)) (recordAt (now (row .entry)))) × (length (now (reached .exit)) ≡ length (now (reached .entry))) ⌝ }
 {
@@ -258,7 +258,7 @@ pub fn climb_rows(r: &[u64], count: usize, reached: &mut [u64])
 }
 
 // Whether the first n parts of a are at most those of b.
-fn first_at_most(a: &[u64], b: &[u64], n: usize) -> bool
+pub fn first_at_most(a: &[u64], b: &[u64], n: usize) -> bool
     requires { ⌜ (n ≤ length (now a)) × (n ≤ length (now b)) ⌝ }
     ensures { λ r. ⌜ r ≡ allBelow n (λ k. leb (part (now (a .entry)) k) (part (now (b .entry)) k)) ⌝ }
 {

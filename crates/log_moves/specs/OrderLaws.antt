@@ -20,7 +20,7 @@ use Rattle.lists.specs.Sorted.{before-trans, before-irrefl, before-total, put-a
 use Rattle.lists.specs.MoreFacts.{OneMore, at, later, insert-new}
 
 module _ {A : Type 0} where
-  keep-append : (p : A → Bool) (xs ys : List A) → keep p (xs ++ ys) ≡ keep p xs ++ keep p ys
+  pub keep-append : (p : A → Bool) (xs ys : List A) → keep p (xs ++ ys) ≡ keep p xs ++ keep p ys
   keep-append p [] ys = refl
   keep-append p (x ∷ xs) ys = go (p x) (keep-append p xs ys)
     where

@@ -1,0 +1,67 @@
+-- `gossip_moves::take_new` meets its contract. Assumes nothing.
+use Prim.Native.Nat.{ℕ, _+_, _-_, _*_, _≤_, _<_}
+use native.Mathlib.Omega.{arith}
+use mathlib.Core.Path.{_≡_, refl, sym, ap, subst, _∙_}
+use mathlib.Core.List.{List, [], _∷_, _++_}
+use lib.ListN.{length, getD, set, take, drop}
+use Rattle.lists.specs.Part.{mid, patch, length-mid}
+use Rattle.stamp.specs.Parts.{listOf}
+use Rattle.stamp.specs.Stamp.{Stamp, merge}
+use Rattle.ledger.specs.Log.{unknowns}
+use Rattle.log.specs.Region.{rowLong, stampLong}
+use Rattle.gossip.specs.Message.{recordsIn}
+use Rattle.layout.specs.Words.{bookOf}
+use Rattle.moves.specs.Places.{held-long, screens-most, log-count}
+use Rattle.gossip_moves.specs.Taken.{rowMerged}
+use Rattle.gossip_moves.proofs.Put.{row-raised, first-held, own-row, rows-raised, log-taken}
+use borrow.Author.Needs.{needs}
+use Rattle.gossip_moves.proofs.take_new.Statement.{statement}
+use Rattle.gossip_moves.proofs.take_new.Tie as tie
+use Rattle.gossip_moves.proofs.take_new.Reads as reads
+use Rattle.gossip_moves.proofs.take_new.Lts as lts
+use Rattle.gossip_moves.proofs.merge_at.Reads as merge-at-reads
+
+-- src/lib.rt:210:18
+slice-read-logged : tie.Need-slice-read-logged
+slice-read-logged c =
+    let s = c .before .before .before .before in
+    omega (arith, held-long (s .args .b .now) (s .pre .0))
+
+-- src/lib.rt:211:5
+merge-at-requires : tie.Need-merge-at-requires
+unfolding bookOf
+merge-at-requires c κs =
+    let s = c .before .before .before .before .before in
+    let ws = s .args .b .now in
+    ((omega arith, omega (arith, held-long ws (s .pre .0)), omega (arith, log-count ws (s .pre .0), s .pre .1 .1 .1)), (s .pre .1 .0, s .pre .1 .1 .0))
+
+-- src/lib.rt:212:18
+add-b : tie.Need-add-b
+add-b c =
+    let s = c .before .before .before .before .before .before .before .before in
+    record { fits = omega (arith, log-count (s .args .b .now) (s .pre .0), s .pre .1 .1 .1) }
+
+-- src/lib.rt:212:5
+slice-write-b : tie.Need-slice-write-b
+slice-write-b c =
+    let s = c .before .before .before .before .before .before .before .before in
+    omega (arith, held-long (s .args .b .now) (s .pre .0))
+
+-- src/lib.rt:203:1
+same-length : tie.Need-same-length
+same-length c = search needs
+
+-- src/lib.rt:203:1
+returns : tie.Need-returns
+returns c =
+    let m = c .before .before in
+    let s = m .before .before .before .before .before .before in
+    let w = s .args in
+    let ws = w .b .now in
+    ap (λ (l : List ℕ). set l 2 (getD ws 2 0 + w .new)) (m .merge-at .ensures)
+    ∙ log-taken ws (s .pre .0) (unknowns (w .known .now) (recordsIn (w .msg .now))) (s .pre .1 .1 .0) (w .new) (s .pre .1 .0 .new-number) (s .pre .1 .1 .1)
+
+pub take-new-spec : {M : Type 1} → statement M
+take-new-spec =
+    tie.close
+    (tie.spec slice-read-logged merge-at-requires add-b slice-write-b same-length returns)

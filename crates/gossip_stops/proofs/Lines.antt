@@ -1,0 +1,109 @@
+-- Each line of the refusals by the head, from the tests that lead to it. Assumes nothing.
+use Prim.Native.Nat.{ℕ, zero, suc, _+_, _*_, _≤_, _<_}
+use native.Mathlib.Omega.{arith}
+use mathlib.Core.Path.{_≡_, refl, sym, ap, subst, _∙_}
+use mathlib.Core.Logic.{_≢_}
+use mathlib.Core.Bool.{true, false}
+use mathlib.Core.List.{List}
+use borrow.Author.Tests.{lt-ltb, le-ltb, eq-eqb, ne-eqb}
+use lib.Dec.{T, ltb}
+use lib.ListN.{length, getD}
+use lib.Seq.{take-all}
+use Rattle.lists.specs.Facts.{all-at}
+use Rattle.lists.specs.Part.{mid}
+use Rattle.lists.specs.Tests.{every}
+use Rattle.stamp.specs.Laws.{Fits, fits, fits-test, fits-merge}
+use Rattle.stamp.specs.Limits.{parts, word}
+use Rattle.stamp.specs.Parts.{partsAt, listOf}
+use Rattle.stamp.specs.PartsLaws.{list-parts}
+use Rattle.stamp.specs.Stamp.{Stamp, part, atMost, merge, total, stampRules, stampFits}
+use Rattle.ledger.specs.Limits.{bookRoom}
+use Rattle.meaning.specs.Book.{Book, row, known}
+use Rattle.meaning.specs.BookLaws.{me-in, known-fits}
+use Rattle.layout.specs.Held.{Held}
+use Rattle.layout.specs.SoundWords.{lawful-sound, lawful-held}
+use Rattle.layout.specs.Words.{bookOf, lawful}
+use Rattle.moves.specs.Places.{held-long, screens-most, row-words}
+use Rattle.gossip_stops.specs.Refusals.{unless, rowRefusal, ownRefusal, stampRefusal}
+
+-- a stamp read into a value and listed again
+pub whole-stamp : (s : Stamp) → length s ≡ 8 → listOf (partsAt 0 s) ≡ s
+whole-stamp s e =
+    let l : 0 + 8 ≤ length s = omega arith in
+    let m : length s ≤ 8 = omega arith in
+    list-parts 0 s l ∙ take-all 8 s m
+
+pub eight-parts : (n : ℕ) (s : Stamp) → T (stampFits n s) → length s ≡ 8
+unfolding parts
+eight-parts n s t = fits n s t .long
+
+-- the two first words of a book
+pub me-word : (ws : List ℕ) → (bookOf ws) .me ≡ getD ws 0 0
+unfolding bookOf
+me-word ws = refl
+
+pub screens-word : (ws : List ℕ) → (bookOf ws) .screens ≡ getD ws 1 0
+unfolding bookOf
+screens-word ws = refl
+
+pub row-read : (ws : List ℕ) → Held ws → (j : ℕ) → j < (bookOf ws) .screens → listOf (partsAt (4 + j * 8) ws) ≡ row (bookOf ws) j
+unfolding mid
+row-read ws h j l = list-parts (4 + j * 8) ws (omega (arith, held-long ws h, screens-most ws h, screens-word ws)) ∙ sym (row-words ws h j l)
+
+-- the merged stamp's parts are words
+pub merged-words : (ws : List ℕ) → T (lawful ws) → (m : Stamp) → T (stampFits ((bookOf ws) .screens) m) → T (every (λ x. ltb x word) (merge (known (bookOf ws)) m))
+unfolding stampFits
+merged-words ws h m f =
+    let n = (bookOf ws) .screens in
+    let s = merge (known (bookOf ws)) m in
+    all-at (stampRules n s) 1 (fits-test n s (fits-merge n (known (bookOf ws)) m (known-fits (bookOf ws) (lawful-sound ws h)) (fits n m f)))
+
+module _ (s m : Stamp) where
+  pub row-old : atMost m s ≡ true → 4 ≡ rowRefusal s m
+  unfolding rowRefusal
+  row-old e = rw e
+
+  pub row-crossed : atMost m s ≡ false → atMost s m ≡ false → 5 ≡ rowRefusal s m
+  unfolding rowRefusal
+  row-crossed e f = rw (e, f)
+
+  pub row-newer : atMost m s ≡ false → atMost s m ≡ true → 0 ≡ rowRefusal s m
+  unfolding rowRefusal
+  row-newer e f = rw (e, f)
+
+  pub own-ahead : (i : ℕ) → part s i < part m i → 6 ≡ ownRefusal s i m
+  unfolding ownRefusal
+  own-ahead i h = rw (lt-ltb (part s i) (part m i) h)
+
+  pub own-spent : (i : ℕ) → part m i ≤ part s i → 1024 < total (merge s m) → 7 ≡ ownRefusal s i m
+  unfolding ownRefusal bookRoom
+  own-spent i h k = rw (le-ltb (part s i) (part m i) h, lt-ltb 1024 (total (merge s m)) k)
+
+  pub own-room : (i : ℕ) → part m i ≤ part s i → total (merge s m) ≤ 1024 → 0 ≡ ownRefusal s i m
+  unfolding ownRefusal bookRoom
+  own-room i h k = rw (le-ltb (part s i) (part m i) h, le-ltb 1024 (total (merge s m)) k)
+
+unless-some : (x k : ℕ) → x ≢ 0 → x ≡ unless x k
+unless-some zero k n = absurd (n refl)
+unless-some (suc x) k n = refl
+
+module _ (b : Book) (j n : ℕ) (m : Stamp) where
+  pub other-house : n ≢ b .screens → 2 ≡ stampRefusal b j n m
+  unfolding stampRefusal
+  other-house h = rw (ne-eqb n (b .screens) h)
+
+  module _ (house : n ≡ b .screens) where
+    pub from-self : j ≡ b .me → 2 ≡ stampRefusal b j n m
+    unfolding stampRefusal
+    from-self e = rw (eq-eqb n (b .screens) house, eq-eqb j (b .me) e)
+
+    module _ (other : j ≢ b .me) where
+      later : stampRefusal b j n m ≡ unless (rowRefusal (row b j) m) (ownRefusal (known b) (b .me) m)
+      unfolding stampRefusal
+      later = rw (eq-eqb n (b .screens) house, ne-eqb j (b .me) other)
+
+      pub by-row : rowRefusal (row b j) m ≢ 0 → rowRefusal (row b j) m ≡ stampRefusal b j n m
+      by-row h = unless-some (rowRefusal (row b j) m) (ownRefusal (known b) (b .me) m) h ∙ sym later
+
+      pub by-own : rowRefusal (row b j) m ≡ 0 → ownRefusal (known b) (b .me) m ≡ stampRefusal b j n m
+      by-own e = sym (later ∙ ap (λ (x : ℕ). unless x (ownRefusal (known b) (b .me) m)) e)

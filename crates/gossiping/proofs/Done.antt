@@ -1,0 +1,202 @@
+-- What a gossip does that nothing stops, step by step, of the book that the words hold. Assumes nothing.
+use Prim.Native.Nat.{ℕ, _+_, _≤_, _<_}
+use native.Mathlib.Omega.{arith}
+use mathlib.Core.Path.{_≡_, refl, sym, ap, ap₂, subst, _∙_}
+use mathlib.Core.Logic.{_≢_}
+use mathlib.Core.List.{List, []}
+use lib.Dec.{T}
+use lib.ListN.{length, getD, set}
+use Rattle.lists.specs.Facts.{either, every-from}
+use Rattle.lists.specs.MoreFacts.{eq→eqb}
+use Rattle.lists.specs.Tests.{every}
+use Rattle.stamp.specs.Laws.{Covers, fits, parts-atMost}
+use Rattle.stamp.specs.Limits.{parts}
+use Rattle.stamp.specs.Stamp.{Stamp, part, merge}
+use Rattle.tally.specs.Tap.{bodyFits}
+use Rattle.ledger.specs.Limits.{logRoom}
+use Rattle.ledger.specs.Log.{newlyApplied, gathered, unknowns}
+use Rattle.ledger.specs.LogLaws.{put-log, same-place}
+use Rattle.ledger.specs.Record.{Record}
+use Rattle.ledger.specs.RecordLaws.{obeys}
+use Rattle.log.specs.RegionLaws.{eightParts}
+use Rattle.log_moves.specs.Merge.{Fresh}
+use Rattle.log_moves.specs.MergeLaws.{length-gathered, every-gathered}
+use Rattle.gossip.specs.Message.{recordsIn, messageOf}
+use Rattle.meaning.specs.Book.{Book, row, known}
+use Rattle.meaning.specs.BookLaws.{Sound, me-in}
+use Rattle.meaning.specs.SettleLaws as meaning
+use Rattle.meaning.specs.SettleLaws.{settle-sound}
+use Rattle.meaning.specs.Step.{nowApplied, nowCounted, settle, newOnes, gossipRows}
+use Rattle.meaning.specs.StepLaws.{GossipDone, gossip-now, gossip-ready}
+use Rattle.layout.specs.Held.{Held}
+use Rattle.layout.specs.SoundWords.{sound-shape, lawful-sound, lawful-held}
+use Rattle.layout.specs.With.{withTable, withLog}
+use Rattle.layout.specs.Words.{bookOf, wordsOf, lawful}
+use Rattle.layout.specs.WordsLaws.{Shape}
+use Rattle.moves.specs.Moves.{settled}
+use Rattle.moves.specs.MovesLaws.{settle-is}
+use Rattle.moves.specs.Places.{held-is, book-is, known-long}
+use Rattle.moves.specs.Ready.{Ready}
+use Rattle.gossip_moves.specs.Taken.{raisedRows, Raisable, Coming}
+use Rattle.gossiping.specs.Heard.{Heard}
+use Rattle.gossiping.proofs.Message.{sender-is, stamp-is, sender-in, stamp-in, screens-is, records-are}
+
+-- a sound book with rows and new records that are ready: the shape that its words need on the way, and what putting it in order asks
+module _ (b : Book) (s : Sound b) (rows : List Stamp) (new : List Record) (y : meaning.Ready b rows new) where
+  -- rows set, then new records in the log
+  abbrev pub withRows : Book
+  withRows = withTable rows b
+
+  abbrev pub withNew : Book
+  withNew = withLog (gathered new (b .log)) (withTable rows b)
+
+  pub fresh : Fresh new (b .log)
+  fresh =
+      record {
+        order = y .order;
+        sorted = s .log-order;
+        apart = λ x r m k e. let p = same-place x r e in omega (arith, y .above x m, s .log-known r k, p .1, ap (λ (i : ℕ). part (known b) i) (p .0));
+      }
+
+  after : Shape (settle b rows new)
+  after = sound-shape (settle b rows new) (settle-sound b rows new s y)
+
+  pub rows-shape : Shape (withTable rows b)
+  unfolding settle
+  rows-shape =
+      let p = sound-shape b s in
+      record {
+        rows-long = y .rows-long;
+        screens-few = p .screens-few;
+        rows-wide = after .rows-wide;
+        value-long = p .value-long;
+        log-few = p .log-few;
+        log-eight = p .log-eight;
+        counted-few = p .counted-few;
+        counted-fit = p .counted-fit;
+        prompts-long = p .prompts-long;
+      }
+
+  new-eight : T (every eightParts new)
+  unfolding eightParts parts
+  new-eight = every-from eightParts new (λ r m. eq→eqb (length (r .label)) 8 (obeys bodyFits (b .screens) r (y .obey r m) .label-fits .long))
+
+  pub new-shape : Shape (withLog (gathered new (b .log)) (withTable rows b))
+  new-shape =
+      let p = rows-shape in
+      record {
+        rows-long = p .rows-long;
+        screens-few = p .screens-few;
+        rows-wide = p .rows-wide;
+        value-long = p .value-long;
+        log-few = omega (arith, length-gathered new (b .log) fresh, y .space);
+        log-eight = every-gathered eightParts new (b .log) new-eight (p .log-eight);
+        counted-few = p .counted-few;
+        counted-fit = p .counted-fit;
+        prompts-long = p .prompts-long;
+      }
+
+  pub known-after : known (withLog (gathered new (b .log)) (withTable rows b)) ≡ getD rows (b .me) []
+  unfolding known row
+  known-after = refl
+
+  pub new-ready : Ready (known b) (known (withLog (gathered new (b .log)) (withTable rows b))) (withLog (gathered new (b .log)) (withTable rows b))
+  unfolding settle nowCounted nowApplied known row
+  new-ready =
+      let t = settle-sound b rows new s y in
+      record {
+        shape = new-shape;
+        order = s .counted-order;
+        follow = s .follow;
+        obey = λ r m. either (put-log new (b .log) .from r m) (λ k. y .obey r k) (λ k. s .log-obeys r k);
+        room = omega (arith, t .few, t .book-room);
+      }
+
+-- a gossip that nothing stops
+module _ (ws bytes : List ℕ) (j n count : ℕ) (m : Stamp) (w : T (lawful ws)) (h : Heard bytes j n count m) (d : GossipDone (bookOf ws) (messageOf bytes)) where
+  abbrev b : Book
+  b = bookOf ws
+
+  abbrev rows : List Stamp
+  rows = gossipRows (bookOf ws) (messageOf bytes)
+
+  abbrev new : List Record
+  new = newOnes (bookOf ws) (messageOf bytes)
+
+  sound-now : Sound (bookOf ws)
+  sound-now = lawful-sound ws w
+
+  ready : meaning.Ready (bookOf ws) (gossipRows (bookOf ws) (messageOf bytes)) (newOnes (bookOf ws) (messageOf bytes))
+  ready = gossip-ready b (messageOf bytes) d
+
+  pub raisable : j ≢ (bookOf ws) .me → Raisable (bookOf ws) j m
+  unfolding parts
+  raisable other =
+      record {
+        row-in = omega (arith, sender-in bytes j n count m h, screens-is bytes j n count m h, d .house);
+        me-in = me-in b sound-now;
+        other = other;
+        long = fits n m (stamp-in bytes j n count m h) .long;
+        newer = parts-atMost (row b j) m (subst (λ (x : Stamp). Covers x (row b j)) (stamp-is bytes j n count m h) (subst (λ (i : ℕ). Covers (messageOf bytes .stamp) (row b i)) (sender-is bytes j n count m h) (d .newer)));
+      }
+
+  rows-are : raisedRows (bookOf ws) j m ≡ gossipRows (bookOf ws) (messageOf bytes)
+  unfolding gossipRows raisedRows
+  rows-are = rw (sender-is bytes j n count m h, stamp-is bytes j n count m h)
+
+  -- the rows are set
+  module _ (vs : List ℕ) (e : vs ≡ wordsOf (withTable (raisedRows (bookOf ws) j m) (bookOf ws))) where
+    rows-words : vs ≡ wordsOf (withTable rows b)
+    rows-words = e ∙ ap (λ (x : List Stamp). wordsOf (withTable x b)) rows-are
+
+    pub rows-held : Held vs
+    rows-held = held-is vs (withTable rows b) (rows-shape b sound-now rows new ready) rows-words
+
+    rows-book : bookOf vs ≡ withTable rows b
+    rows-book = book-is vs (withTable rows b) (rows-shape b sound-now rows new ready) rows-words
+
+    -- the new records come
+    module _ (before : Stamp) (q : before ≡ known (bookOf ws)) (k : ℕ) (u : k ≡ length (newOnes (bookOf ws) (messageOf bytes))) where
+      new-are : unknowns before (recordsIn bytes) ≡ newOnes (bookOf ws) (messageOf bytes)
+      unfolding newOnes
+      new-are = ap₂ unknowns q (sym (records-are bytes))
+
+      pub coming : Coming bytes n count m before k
+      coming = record { head = h .head; number = h .number; new-number = u ∙ ap length (sym new-are) }
+
+      pub still-fresh : Fresh (unknowns before (recordsIn bytes)) ((bookOf vs) .log)
+      still-fresh = rw (new-are, rows-book) (fresh b sound-now rows new ready)
+
+      pub in-room : length ((bookOf vs) .log) + k ≤ 256
+      unfolding logRoom
+      in-room = omega (arith, ap (λ (x : Book). length (x .log)) rows-book, u, d .room)
+
+      module _ (us : List ℕ) (f : us ≡ wordsOf (withLog (gathered (unknowns before (recordsIn bytes)) ((bookOf vs) .log)) (bookOf vs))) where
+        new-words : us ≡ wordsOf (withLog (gathered new (b .log)) (withTable rows b))
+        new-words = f ∙ ap₂ (λ (x : List Record) (y : Book). wordsOf (withLog (gathered x (y .log)) y)) new-are rows-book
+
+        pub new-held : Held us
+        new-held = held-is us (withLog (gathered new (b .log)) (withTable rows b)) (new-shape b sound-now rows new ready) new-words
+
+        new-book : bookOf us ≡ withLog (gathered new (b .log)) (withTable rows b)
+        new-book = book-is us (withLog (gathered new (b .log)) (withTable rows b)) (new-shape b sound-now rows new ready) new-words
+
+        pub still-me : (bookOf us) .me < (bookOf us) .screens
+        still-me = subst (λ (x : Book). x .me < x .screens) (sym new-book) (me-in b sound-now)
+
+        pub before-long : length before ≡ 8
+        before-long = ap length q ∙ known-long ws (lawful-held ws w) (me-in b sound-now)
+
+        pub all-ready : Ready before (known (bookOf us)) (bookOf us)
+        all-ready = rw (q, new-book) (new-ready b sound-now rows new ready)
+
+        pub book-settled : wordsOf (settled before (bookOf us)) ≡ wordsOf (settle (bookOf ws) (gossipRows (bookOf ws) (messageOf bytes)) (newOnes (bookOf ws) (messageOf bytes)))
+        book-settled = ap₂ (λ (x : Stamp) (y : Book). wordsOf (settled x y)) q new-book ∙ ap wordsOf (sym (settle-is b (sound-now .counted-order) (sound-now .follow) rows new))
+
+        pub number-applied :
+            length (newlyApplied before (known (bookOf us)) ((bookOf us) .log))
+            ≡ length (nowApplied (bookOf ws) (merge (known (bookOf ws)) (messageOf bytes .stamp)) (newOnes (bookOf ws) (messageOf bytes)))
+        unfolding nowApplied
+        number-applied =
+            ap₂ (λ (x : Stamp) (y : Book). length (newlyApplied x (known y) (y .log))) q new-book
+            ∙ ap (λ (x : Stamp). length (newlyApplied (known b) x (gathered new (b .log)))) (known-after b sound-now rows new ready ∙ gossip-now b (messageOf bytes) d)

@@ -1,0 +1,3 @@
+pub mod Message
+pub mod Lines
+pub mod Done
