@@ -7,30 +7,32 @@ use native.Mathlib.Omega.{arith}
 use mathlib.Core.Path.{_≡_, refl, sym, ap, subst, _∙_}
 use mathlib.Core.Logic.{_≢_}
 use mathlib.Core.Bool.{Bool, true, false, _&&_, cond}
-use mathlib.Core.List.{List}
+use mathlib.Core.List.{List, _∷_}
 use lib.Dec.{T, ltb, ltb→lt}
 use lib.ListN.{getD}
-use Rattle.lists.specs.Facts.{and-l, and-r}
+use Rattle.lists.specs.Facts.{and-l, and-r, is-true}
 use Rattle.stamp.specs.Parts.{partsAt, listOf}
 use Rattle.stamp.specs.Stamp.{stampFits}
 use Rattle.stamp.specs.declared.Parts.{Parts}
 use Rattle.tally.specs.Limits.{promptCount}
 use Rattle.tally.specs.Tap.{tapFits}
 use Rattle.tally.specs.declared.Tap.{Tap}
-use Rattle.wire.specs.Kinds.{Kind, shaped, tapAt, stampAt, tapKind, questionKind}
+use Rattle.wire.specs.Kinds.{Kind, shaped, tapAt, stampAt, headKind, tapKind, questionKind}
 use Rattle.wire.specs.Read.{lineOf, readable, readAs}
 use Rattle.wire.specs.Write.{Output, Meets, refuse}
 use Rattle.wire.specs.declared.Said.{Said}
 use Rattle.wire.specs.declared.Said.the-variants as said
 use Rattle.wire.specs.declared.Written.{Written}
 use Rattle.wire.specs.declared.Written.the-variants.{Refused}
-use Rattle.gossip.specs.Message.{bytesOf}
+use Rattle.gossip.specs.Message.{headLine, wellFormed, messageOf, readGossip, bytesOf}
+use Rattle.gossip.specs.Told.{gossip-told, head-in}
+use Rattle.gossiping.specs.Heard.{Heard}
 use Rattle.meaning.specs.AnswerLaws.{ask-keeps}
 use Rattle.meaning.specs.Reply.{refusal}
-use Rattle.meaning.specs.Step.{Outcome, tapStep, ask, send}
+use Rattle.meaning.specs.Step.{Outcome, tapStep, ask, send, gossipStep}
 use Rattle.layout.specs.SoundWords.{lawful-held}
 use Rattle.layout.specs.Words.{bookOf, wordsOf, lawful}
-use Rattle.answers.specs.Lent.{Lent, Promise, onBook, heard, tapOn, questionOn, putFront, sendOn}
+use Rattle.answers.specs.Lent.{Lent, Promise, onBook, heard, tapOn, questionOn, gossipOn, putFront, sendOn}
 use Rattle.answers.specs.LentLaws.{lentOf}
 use Rattle.answers.specs.Spoken.{spoken}
 use Rattle.answers.specs.declared.Reply as answer
@@ -133,3 +135,30 @@ send-owes-unsound ws out e = subst (λ (o : Output). Meets o (Refused 11) out) (
 pub send-owes : (ws out : List ℕ) → lawful ws ≡ true → (r : Written) (w : List ℕ) → Meets (putFront (bytesOf (send (bookOf ws))) out) r w → Meets (sendOn ws out) r w
 unfolding sendOn
 send-owes ws out e r w m = subst (λ (o : Output). Meets o r w) (ap (λ (c : Bool). cond c (putFront (bytesOf (send (bookOf ws))) out) (refuse 11 out)) (sym e)) m
+
+-- a gossip's bytes that are read, and that are not
+module _ (ws bytes : List ℕ) (sender screens count : ℕ) (m : Parts) (e : lawful ws ≡ true) (read : said.Head sender screens count m ≡ readGossip bytes) where
+  gossip-line : T (wellFormed bytes) × (headLine bytes ≡ 1 ∷ sender ∷ screens ∷ count ∷ listOf m)
+  gossip-line = let t = gossip-told bytes (said.Head sender screens count m) read refl in (t .0, head-in bytes sender screens count m (t .1))
+
+  pub gossip-heard : Heard bytes sender screens count (listOf m)
+  unfolding partsAt listOf
+  gossip-heard =
+      let h = gossip-line .1 in
+      record {
+        head = record { formed = gossip-line .0; screens = ap (λ (l : List ℕ). getD l 2 0) h; stamp = ap (λ (l : List ℕ). stampAt 4 l) h };
+        from = ap (λ (l : List ℕ). getD l 1 0) h;
+        number = ap (λ (l : List ℕ). getD l 3 0) h;
+      }
+
+  pub gossip-owes : (r : answer.Reply) (w : List ℕ) → Promise (lentOf (gossipStep (bookOf ws) (messageOf bytes))) r w → Promise (gossipOn ws bytes) r w
+  unfolding gossipOn
+  gossip-owes r w p = owes-step ws e (wellFormed bytes) (is-true (wellFormed bytes) (gossip-line .0)) (gossipStep (bookOf ws) (messageOf bytes)) r w p
+
+pub untold-gossip : (bytes : List ℕ) (v : Said) → v ≡ readGossip bytes → v ≢ headKind .said (headLine bytes) → wellFormed bytes ≡ false
+unfolding readGossip
+untold-gossip bytes v read n = go (wellFormed bytes) refl
+  where
+    go : (c : Bool) → wellFormed bytes ≡ c → wellFormed bytes ≡ false
+    go true f = absurd (n (read ∙ ap (λ (d : Bool). cond d (headKind .said (headLine bytes)) (said.Unreadable 1)) f))
+    go false f = f
