@@ -4,21 +4,22 @@ use native.Mathlib.Nat.{zero-mul, suc-mul}
 use native.Mathlib.Omega.{arith}
 use mathlib.Core.Path.{_≡_, refl, sym, ap, ap₂, _∙_}
 use mathlib.Core.List.{List, [], _∷_, _++_, append-nil}
-use lib.Dec.{T, leb, ltb, leb→le}
+use lib.Dec.{T}
 use lib.ListN.{length, take, set, replicate, length-replicate, replicate-append-replicate}
 use lib.Seq.{take-all}
-use Rattle.lists.specs.Facts.{all-at}
 use Rattle.lists.specs.Rows.{flat}
 use Rattle.stamp.specs.Limits.{parts}
 use Rattle.stamp.specs.Stamp.{zeros}
 use Rattle.tally.specs.Standing.{afresh}
-use Rattle.ledger.specs.Limits.{fewest, most, logRoom, bookRoom}
+use Rattle.ledger.specs.Limits.{most, logRoom, bookRoom}
 use Rattle.ledger.specs.Message.{inRange}
 use Rattle.log.specs.Region.{logWords}
 use Rattle.counted.specs.Region.{tapWords}
 use Rattle.prompts.specs.Region.{standingWords}
 use Rattle.prompts.specs.RegionLaws.{words-fresh}
 use Rattle.meaning.specs.Book.{fresh}
+use Rattle.meaning.specs.BookLaws.{fresh-sound}
+use Rattle.layout.specs.SoundWords.{sound-shape}
 use Rattle.layout.specs.Words.{tableWords, pieces, wordsOf, bookLong}
 
 -- zeros one after the other
@@ -73,8 +74,8 @@ stored : (k i n : ℕ) → set (set (replicate (suc (suc (suc (suc k)))) 0) 0 i)
 stored k i n = refl
 
 few : (i n : ℕ) → T (inRange i n) → n ≤ most
-unfolding inRange
-few i n h = leb→le n most (all-at (leb fewest n ∷ leb n most ∷ ltb i n ∷ []) 1 h)
+unfolding fresh
+few i n h = sound-shape (fresh i n) (fresh-sound i n h) .screens-few
 
 pub fresh-stored : (l : List ℕ) (m i n : ℕ) → T (inRange i n) → l ≡ replicate m 0 → m ≡ bookLong → set (set l 0 i) 1 n ≡ wordsOf (fresh i n)
 fresh-stored l m i n h e f =

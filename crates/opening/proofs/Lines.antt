@@ -4,12 +4,12 @@ use mathlib.Core.Path.{_≡_, sym, ap, _∙_}
 use mathlib.Core.Bool.{true, false}
 use mathlib.Core.List.{List}
 use mathlib.Core.Logic.{_≢_}
-use mathlib.Core.Option.{Option, none, some}
+use mathlib.Core.Option.{none, some}
 use lib.ListN.{length}
 use borrow.Author.Tests.{eq-eqb, ne-eqb}
 use Rattle.ledger.specs.Message.{inRange}
 use Rattle.meaning.specs.Book.{fresh}
-use Rattle.meaning.specs.Reply.{Reply, refusal}
+use Rattle.meaning.specs.Reply.{refusal}
 use Rattle.meaning.specs.Step.{openStops}
 use Rattle.layout.specs.Words.{bookLong, wordsOf}
 use Rattle.answers.specs.Lent.{Opened, openOn}
