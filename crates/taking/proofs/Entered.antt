@@ -1,7 +1,7 @@
 -- Laws: the words on the way from a tap that nothing stops to the book put in order. Assumes nothing.
 use Prim.Native.Nat.{ℕ, _<_}
 use native.Mathlib.Omega.{arith}
-use mathlib.Core.Path.{_≡_, refl, sym, ap, subst, _∙_}
+use mathlib.Core.Path.{_≡_, sym, ap, subst, _∙_}
 use mathlib.Core.List.{List, [], _∷_}
 use lib.ListN.{length, getD, set}
 use Rattle.stamp.specs.Stamp.{Stamp, replace}

@@ -2,10 +2,10 @@
 use Prim.Native.Nat.{ℕ, zero, suc, _+_, _-_, _*_, _≤_, _<_}
 use native.Mathlib.Nat.{zero-add, suc-add, zero-mul, suc-mul}
 use native.Mathlib.Omega.{arith}
-use mathlib.Core.Path.{_≡_, refl, sym, ap, ap₂, subst, _∙_}
+use mathlib.Core.Path.{_≡_, refl, sym, ap, ap₂, _∙_}
 use mathlib.Core.List.{List, [], _∷_, _++_, append-assoc}
 use lib.Dec.{T, ltb, lt→ltb}
-use lib.ListN.{length, getD, set, replicate}
+use lib.ListN.{length, getD, set, replicate, length-set}
 use lib.Seq.{set-append-left, take-all}
 use Rattle.lists.specs.Facts.{getD-every}
 use Rattle.lists.specs.Part.{mid, patch, length-mid}
@@ -20,6 +20,7 @@ use Rattle.stamp.specs.Stamp.{Stamp, part, replace}
 use Rattle.stamp.specs.declared.Parts.{Parts}
 use Rattle.tally.specs.Tap.{bodyFits, tapOf}
 use Rattle.tally.specs.WordLaws.{word-tap}
+use Rattle.ledger.specs.LimitLaws.{range-parts}
 use Rattle.ledger.specs.Limits.{most, logRoom}
 use Rattle.ledger.specs.Log.{gathered}
 use Rattle.ledger.specs.Record.{Record}
@@ -32,11 +33,11 @@ use Rattle.meaning.specs.Book.{Book, row, known}
 use Rattle.meaning.specs.BookLaws.{Sound, me-in, known-fits}
 use Rattle.meaning.specs.Step.{newRecord}
 use Rattle.layout.specs.Held.{Held, put-table, put-log}
-use Rattle.layout.specs.SoundWords.{sound-shape, lawful-sound, lawful-held}
+use Rattle.layout.specs.SoundWords.{lawful-sound}
 use Rattle.layout.specs.With.{withTable, withLog}
 use Rattle.layout.specs.Words.{pieces, tableWords, bookOf, wordsOf, lawful}
 use Rattle.layout.specs.WordsLaws.{piece-back}
-use Rattle.moves.specs.Places.{noRecord, held-long, log-count}
+use Rattle.moves.specs.Places.{noRecord, held-long, me-small, log-count}
 use Rattle.moves.specs.Ready.{getD-in}
 
 -- a store past the front of a list
@@ -65,25 +66,16 @@ wide-at w [] i h l = absurd (omega arith)
 wide-at w (c ∷ cs) zero h l = h .0
 wide-at w (c ∷ cs) (suc i) h l = wide-at w cs i (h .1) (omega arith)
 
-length-set-rows : (cs : List (List ℕ)) (i : ℕ) (c : List ℕ) → length (set cs i c) ≡ length cs
-length-set-rows [] i c = refl
-length-set-rows (x ∷ cs) zero c = refl
-length-set-rows (x ∷ cs) (suc i) c = ap suc (length-set-rows cs i c)
-
 -- the same on the table's words
 table-set : (rs : List Stamp) (i k v : ℕ) → Wide 8 rs → i < length rs → k < 8 → set (tableWords rs) (i * 8 + k) v ≡ tableWords (set rs i (replace (getD rs i []) k v))
 unfolding tableWords parts
 table-set rs i k v h l m =
     let n : k < length (getD rs i []) = omega (arith, wide-at 8 rs i h l) in
-    rw (length-set-rows rs i (replace (getD rs i []) k v), ← set-replace (getD rs i []) k v n) (set-rows 8 rs (replicate ((most - length rs) * 8) 0) i k v h l m)
+    rw (length-set rs i (replace (getD rs i []) k v), ← set-replace (getD rs i []) k v n) (set-rows 8 rs (replicate ((most - length rs) * 8) 0) i k v h l m)
 
 own-place : (ws : List ℕ) → getD ws 0 0 ≡ (bookOf ws) .me
 unfolding bookOf
 own-place ws = refl
-
-most-eight : most ≤ 8
-unfolding most
-most-eight = omega arith
 
 module _ (ws : List ℕ) (h : Held ws) where
   pub own-raised :
@@ -95,7 +87,7 @@ module _ (ws : List ℕ) (h : Held ws) where
       let b = bookOf ws in
       let i = b .me in
       let me : getD ws 0 0 ≡ i = own-place ws in
-      let few : i < 8 = omega (arith, h .shape .screens-few, most-eight) in
+      let few : i < 8 = omega (arith, me-small ws h l) in
       let in-rows : i < length (b .table) = omega (arith, h .shape .rows-long) in
       let words : mid 4 64 ws ≡ tableWords (b .table) = ap (mid 4 64) (sym (h .words)) ∙ piece-back b (h .shape) 1 (omega arith) in
       let long : length (mid 4 64 ws) ≡ 64 = length-mid 4 64 ws (omega (arith, held-long ws h)) in
@@ -104,18 +96,16 @@ module _ (ws : List ℕ) (h : Held ws) where
       ∙ ap (λ (r : List ℕ). patch 4 64 r (tableWords (set (b .table) i (replace (getD (b .table) i []) i v)))) (sym (h .words))
       ∙ put-table b (h .shape) (set (b .table) i (replace (getD (b .table) i []) i v)))
 
-  log-words : mid 76 2816 ws ≡ logWords logRoom ((bookOf ws) .log)
-  unfolding pieces
-  log-words = ap (mid 76 2816) (sym (h .words)) ∙ piece-back (bookOf ws) (h .shape) 3 (omega arith)
-
   pub log-put :
       (x : Record) → Fresh (x ∷ []) ((bookOf ws) .log) → length ((bookOf ws) .log) < logRoom
       → set (patch 76 2816 ws (merged (x ∷ []) (getD ws 2 0) 1 (mid 76 2816 ws))) 2 (getD ws 2 0 + 1) ≡ wordsOf (withLog (gathered (x ∷ []) ((bookOf ws) .log)) (bookOf ws))
+  unfolding pieces
   log-put x fresh room =
       let b = bookOf ws in
       let rs = gathered (x ∷ []) (b .log) in
+      let words : mid 76 2816 ws ≡ logWords logRoom (b .log) = ap (mid 76 2816) (sym (h .words)) ∙ piece-back b (h .shape) 3 (omega arith) in
       let region : merged (x ∷ []) (getD ws 2 0) 1 (mid 76 2816 ws) ≡ logWords logRoom rs =
-      ap₂ (λ (k : ℕ) (r : List ℕ). merged (x ∷ []) k 1 r) (log-count ws h) log-words ∙ merged-words logRoom (b .log) (h .shape .log-eight) (x ∷ []) fresh (omega arith) in
+      ap₂ (λ (k : ℕ) (r : List ℕ). merged (x ∷ []) k 1 r) (log-count ws h) words ∙ merged-words logRoom (b .log) (h .shape .log-eight) (x ∷ []) fresh (omega arith) in
       let number : getD ws 2 0 + 1 ≡ length rs = omega (arith, log-count ws h, length-gathered (x ∷ []) (b .log) fresh) in
       ap₂ (λ (r : List ℕ) (k : ℕ). set (patch 76 2816 ws r) 2 k) region number
       ∙ ap (λ (r : List ℕ). set (patch 76 2816 r (logWords logRoom rs)) 2 (length rs)) (sym (h .words))
@@ -129,15 +119,17 @@ whole-stamp s e =
 
 -- our own number is one of the stamp's parts
 pub own-small : (b : Book) → Sound b → b .me < 8
-own-small b s = omega (arith, me-in b s, sound-shape b s .screens-few, most-eight)
+unfolding parts
+own-small b s = omega (arith, me-in b s, range-parts (b .me) (b .screens) (s .range))
 
 -- a log record's origin is one of the stamp's parts
 pub logged-origin : (ws : List ℕ) → T (lawful ws) → (i : ℕ) → i < length ((bookOf ws) .log) → getD ((bookOf ws) .log) i noRecord .origin < 8
+unfolding parts
 logged-origin ws h i l =
     let b = bookOf ws in
     let s = lawful-sound ws h in
     let r = getD (b .log) i noRecord in
-    omega (arith, obeys bodyFits (b .screens) r (s .log-obeys r (getD-in (b .log) i noRecord l)) .origin-lt, lawful-held ws h .shape .screens-few, most-eight)
+    omega (arith, obeys bodyFits (b .screens) r (s .log-obeys r (getD-in (b .log) i noRecord l)) .origin-lt, range-parts (b .me) (b .screens) (s .range))
 
 -- the known stamp can be summed
 pub known-words : (b : Book) → Sound b → (length (known b) ≤ parts) × T (every (λ x. ltb x word) (known b))

@@ -1,10 +1,8 @@
 -- `asking::ask_book` meets its contract: each return is a line of the question's stops. Assumes nothing.
 use Prim.Native.Nat.{ℕ}
-use native.Mathlib.Omega.{arith}
 use mathlib.Core.Path.{_≡_, sym, ap, ap₂, _∙_}
-use mathlib.Core.Bool.{true, false}
+use mathlib.Core.Bool.{false}
 use lib.Dec.{ltb}
-use lib.ListN.{length}
 use borrow.Author.Tests.{not-true, not-false}
 use Rattle.stamp.specs.Parts.{listOf}
 use Rattle.stamp.specs.Stamp.{part, atMost, excess}

@@ -1,5 +1,4 @@
 -- `asking::label_unknown` meets its contract. Assumes nothing.
-use Prim.Native.Nat.{ℕ}
 use native.Mathlib.Omega.{arith}
 use mathlib.Core.Path.{ap, ap₂, _∙_}
 use lib.Dec.{ltb}

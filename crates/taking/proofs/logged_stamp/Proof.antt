@@ -1,5 +1,4 @@
 -- `taking::logged_stamp` meets its contract. Assumes nothing.
-use native.Mathlib.Omega.{arith}
 use mathlib.Core.Path.{ap, sym, subst, _∙_}
 use Prim.Native.Nat.{_<_}
 use Rattle.ledger.specs.Record.{Record, stampOf}

@@ -1,8 +1,6 @@
 -- `taking::new_row` meets its contract. Assumes nothing.
 use native.Mathlib.Omega.{arith}
-use mathlib.Core.Path.{ap, _∙_}
 use Rattle.stamp.specs.Laws.{part-total}
-use Rattle.stamp.specs.Stamp.{Stamp, part}
 use Rattle.ledger.specs.Limits.{bookRoom}
 use Rattle.meaning.specs.Book.{known}
 use Rattle.layout.specs.Words.{bookOf}

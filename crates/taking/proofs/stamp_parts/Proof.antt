@@ -1,5 +1,4 @@
 -- `taking::stamp_parts` meets its contract. Assumes nothing.
-use native.Mathlib.Omega.{arith}
 use mathlib.Core.Path.{ap, _∙_}
 use Rattle.stamp.specs.Parts.{listOf}
 use borrow.Author.Needs.{needs}
