@@ -1,10 +1,8 @@
 -- What each change of the words comes to, of the book that they hold: rows raised, new records put into the log. Assumes nothing.
 use Prim.Native.Nat.{ℕ, zero, suc, _+_, _-_, _*_, _≤_, _<_}
 use native.Mathlib.Omega.{arith}
-use mathlib.Core.Path.{_≡_, refl, sym, ap, ap₂, subst, _∙_}
-use mathlib.Core.Logic.{_≢_}
+use mathlib.Core.Path.{_≡_, sym, ap, ap₂, _∙_}
 use mathlib.Core.List.{List, [], _∷_, _++_, append-assoc}
-use lib.Dec.{T}
 use lib.ListN.{length, getD, set, take, drop, replicate, length-set}
 use lib.Seq.{drop-at, take-append-add, drop-append-add, getD-set-other}
 use Rattle.lists.specs.Part.{mid, patch, length-mid, mid-mid}
@@ -16,7 +14,7 @@ use Rattle.stamp.specs.Stamp.{Stamp, merge}
 use Rattle.ledger.specs.Limits.{most, logRoom}
 use Rattle.ledger.specs.Log.{gathered}
 use Rattle.ledger.specs.Record.{Record}
-use Rattle.log.specs.Region.{recordsAt, logWords}
+use Rattle.log.specs.Region.{logWords}
 use Rattle.log_moves.specs.Merge.{Fresh, merged}
 use Rattle.log_moves.specs.MergeLaws.{length-gathered}
 use Rattle.log_moves.specs.WordLaws.{merged-words}

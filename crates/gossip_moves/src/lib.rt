@@ -85,7 +85,15 @@ fn merge_at(
 }
 
 // A message's new records put into the book's log.
-pub fn take_new(b: &mut [u64], new: usize, msg: &[u8], count: usize, n: usize, m: Parts, known: &[u64])
+pub fn take_new(
+    b: &mut [u64],
+    new: usize,
+    msg: &[u8],
+    count: usize,
+    n: usize,
+    m: Parts,
+    known: &[u64],
+)
     requires { ⌜ Held (now b) ⌝ }
     requires { ⌜ Coming (now msg) n count (listOf m) (now known) new ⌝ }
     requires { ⌜ Fresh (unknowns (now known) (recordsIn (now msg))) ((bookOf (now b)) .log) ⌝ }

@@ -1,7 +1,7 @@
 -- Each line of the refusals by the head, from the tests that lead to it. Assumes nothing.
 use Prim.Native.Nat.{ℕ, zero, suc, _+_, _*_, _≤_, _<_}
 use native.Mathlib.Omega.{arith}
-use mathlib.Core.Path.{_≡_, refl, sym, ap, subst, _∙_}
+use mathlib.Core.Path.{_≡_, refl, sym, ap, _∙_}
 use mathlib.Core.Logic.{_≢_}
 use mathlib.Core.Bool.{true, false}
 use mathlib.Core.List.{List}
@@ -12,16 +12,16 @@ use lib.Seq.{take-all}
 use Rattle.lists.specs.Facts.{all-at}
 use Rattle.lists.specs.Part.{mid}
 use Rattle.lists.specs.Tests.{every}
-use Rattle.stamp.specs.Laws.{Fits, fits, fits-test, fits-merge}
+use Rattle.stamp.specs.Laws.{fits, fits-test, fits-merge}
 use Rattle.stamp.specs.Limits.{parts, word}
 use Rattle.stamp.specs.Parts.{partsAt, listOf}
 use Rattle.stamp.specs.PartsLaws.{list-parts}
 use Rattle.stamp.specs.Stamp.{Stamp, part, atMost, merge, total, stampRules, stampFits}
 use Rattle.ledger.specs.Limits.{bookRoom}
 use Rattle.meaning.specs.Book.{Book, row, known}
-use Rattle.meaning.specs.BookLaws.{me-in, known-fits}
+use Rattle.meaning.specs.BookLaws.{known-fits}
 use Rattle.layout.specs.Held.{Held}
-use Rattle.layout.specs.SoundWords.{lawful-sound, lawful-held}
+use Rattle.layout.specs.SoundWords.{lawful-sound}
 use Rattle.layout.specs.Words.{bookOf, lawful}
 use Rattle.moves.specs.Places.{held-long, screens-most, row-words}
 use Rattle.gossip_stops.specs.Refusals.{unless, rowRefusal, ownRefusal, stampRefusal}

@@ -43,13 +43,6 @@ use Rattle.gossiping.proofs.Message.{sender-is, stamp-is, sender-in, st
 
 -- a sound book with rows and new records that are ready: the shape that its words need on the way, and what putting it in order asks
 module _ (b : Book) (s : Sound b) (rows : List Stamp) (new : List Record) (y : meaning.Ready b rows new) where
-  -- rows set, then new records in the log
-  abbrev pub withRows : Book
-  withRows = withTable rows b
-
-  abbrev pub withNew : Book
-  withNew = withLog (gathered new (b .log)) (withTable rows b)
-
   pub fresh : Fresh new (b .log)
   fresh =
       record {
@@ -145,11 +138,11 @@ module _ (ws bytes : List ℕ) (j n count : ℕ) (m : Stamp) (w : T (lawful ws))
   rows-are = rw (sender-is bytes j n count m h, stamp-is bytes j n count m h)
 
   -- the rows are set
-  module _ (vs : List ℕ) (e : vs ≡ wordsOf (withTable (raisedRows (bookOf ws) j m) (bookOf ws))) where
+  module _ (x : Stamp) (o : x ≡ m) (vs : List ℕ) (e : vs ≡ wordsOf (withTable (raisedRows (bookOf ws) j x) (bookOf ws))) where
     rows-words : vs ≡ wordsOf (withTable rows b)
-    rows-words = e ∙ ap (λ (x : List Stamp). wordsOf (withTable x b)) rows-are
+    rows-words = e ∙ ap (λ (y : List Stamp). wordsOf (withTable y b)) (ap (raisedRows b j) o ∙ rows-are)
 
-    pub rows-held : Held vs
+    rows-held : Held vs
     rows-held = held-is vs (withTable rows b) (rows-shape b sound-now rows new ready) rows-words
 
     rows-book : bookOf vs ≡ withTable rows b
@@ -161,42 +154,53 @@ module _ (ws bytes : List ℕ) (j n count : ℕ) (m : Stamp) (w : T (lawful ws))
       unfolding newOnes
       new-are = ap₂ unknowns q (sym (records-are bytes))
 
-      pub coming : Coming bytes n count m before k
+      coming : Coming bytes n count m before k
       coming = record { head = h .head; number = h .number; new-number = u ∙ ap length (sym new-are) }
 
-      pub still-fresh : Fresh (unknowns before (recordsIn bytes)) ((bookOf vs) .log)
+      still-fresh : Fresh (unknowns before (recordsIn bytes)) ((bookOf vs) .log)
       still-fresh = rw (new-are, rows-book) (fresh b sound-now rows new ready)
 
-      pub in-room : length ((bookOf vs) .log) + k ≤ 256
+      in-room : length ((bookOf vs) .log) + k ≤ 256
       unfolding logRoom
       in-room = omega (arith, ap (λ (x : Book). length (x .log)) rows-book, u, d .room)
+
+      pub rows-give : Held vs × (Coming bytes n count m before k × (Fresh (unknowns before (recordsIn bytes)) ((bookOf vs) .log) × (length ((bookOf vs) .log) + k ≤ 256)))
+      rows-give = (rows-held, (coming, (still-fresh, in-room)))
 
       module _ (us : List ℕ) (f : us ≡ wordsOf (withLog (gathered (unknowns before (recordsIn bytes)) ((bookOf vs) .log)) (bookOf vs))) where
         new-words : us ≡ wordsOf (withLog (gathered new (b .log)) (withTable rows b))
         new-words = f ∙ ap₂ (λ (x : List Record) (y : Book). wordsOf (withLog (gathered x (y .log)) y)) new-are rows-book
 
-        pub new-held : Held us
+        new-held : Held us
         new-held = held-is us (withLog (gathered new (b .log)) (withTable rows b)) (new-shape b sound-now rows new ready) new-words
 
         new-book : bookOf us ≡ withLog (gathered new (b .log)) (withTable rows b)
         new-book = book-is us (withLog (gathered new (b .log)) (withTable rows b)) (new-shape b sound-now rows new ready) new-words
 
-        pub still-me : (bookOf us) .me < (bookOf us) .screens
+        still-me : (bookOf us) .me < (bookOf us) .screens
         still-me = subst (λ (x : Book). x .me < x .screens) (sym new-book) (me-in b sound-now)
 
-        pub before-long : length before ≡ 8
+        before-long : length before ≡ 8
         before-long = ap length q ∙ known-long ws (lawful-held ws w) (me-in b sound-now)
 
-        pub all-ready : Ready before (known (bookOf us)) (bookOf us)
+        all-ready : Ready before (known (bookOf us)) (bookOf us)
         all-ready = rw (q, new-book) (new-ready b sound-now rows new ready)
 
-        pub book-settled : wordsOf (settled before (bookOf us)) ≡ wordsOf (settle (bookOf ws) (gossipRows (bookOf ws) (messageOf bytes)) (newOnes (bookOf ws) (messageOf bytes)))
+        pub new-gives : Held us × (((bookOf us) .me < (bookOf us) .screens) × ((length before ≡ 8) × Ready before (known (bookOf us)) (bookOf us)))
+        new-gives = (new-held, (still-me, (before-long, all-ready)))
+
+        book-settled : wordsOf (settled before (bookOf us)) ≡ wordsOf (settle (bookOf ws) (gossipRows (bookOf ws) (messageOf bytes)) (newOnes (bookOf ws) (messageOf bytes)))
         book-settled = ap₂ (λ (x : Stamp) (y : Book). wordsOf (settled x y)) q new-book ∙ ap wordsOf (sym (settle-is b (sound-now .counted-order) (sound-now .follow) rows new))
 
-        pub number-applied :
+        number-applied :
             length (newlyApplied before (known (bookOf us)) ((bookOf us) .log))
             ≡ length (nowApplied (bookOf ws) (merge (known (bookOf ws)) (messageOf bytes .stamp)) (newOnes (bookOf ws) (messageOf bytes)))
         unfolding nowApplied
         number-applied =
             ap₂ (λ (x : Stamp) (y : Book). length (newlyApplied x (known y) (y .log))) q new-book
             ∙ ap (λ (x : Stamp). length (newlyApplied (known b) x (gathered new (b .log)))) (known-after b sound-now rows new ready ∙ gossip-now b (messageOf bytes) d)
+
+        pub settled-is :
+            (wordsOf (settled before (bookOf us)) ≡ wordsOf (settle (bookOf ws) (gossipRows (bookOf ws) (messageOf bytes)) (newOnes (bookOf ws) (messageOf bytes))))
+            × (length (newlyApplied before (known (bookOf us)) ((bookOf us) .log)) ≡ length (nowApplied (bookOf ws) (merge (known (bookOf ws)) (messageOf bytes .stamp)) (newOnes (bookOf ws) (messageOf bytes))))
+        settled-is = (book-settled, number-applied)

@@ -1,7 +1,7 @@
 -- What each return of the gossip owes: a refusal by the stamp, one by the records, or the whole step. Assumes nothing.
 use Prim.Native.Nat.{ℕ, suc, _+_, _≤_, _<_}
 use native.Mathlib.Omega.{arith}
-use mathlib.Core.Path.{_≡_, refl, sym, ap, ap₂, subst, _∙_}
+use mathlib.Core.Path.{_≡_, refl, sym, ap, ap₂, _∙_}
 use mathlib.Core.Logic.{_≢_}
 use mathlib.Core.Bool.{Bool, true, false}
 use mathlib.Core.List.{List}
@@ -50,7 +50,7 @@ module _ (ws bytes : List ℕ) (j n count : ℕ) (m : Stamp) (w : T (lawful ws))
   stamp-refused k e z = refused k (stamp-stops (bookOf ws) (messageOf bytes) sound-now (message-fits bytes j n count m h) k (by-message ∙ sym e) z)
 
   module _ (past : stampRefusal (bookOf ws) j n m ≡ 0) where
-    pub at-home : (n ≡ (bookOf ws) .screens) × (j ≢ (bookOf ws) .me)
+    at-home : (n ≡ (bookOf ws) .screens) × (j ≢ (bookOf ws) .me)
     at-home = same-house (bookOf ws) j n m past
 
     pub house-few : n ≤ 8
@@ -74,7 +74,7 @@ module _ (ws bytes : List ℕ) (j n count : ℕ) (m : Stamp) (w : T (lawful ws))
       gap-refused f = records-refused 7 (rw (whole-is ∙ f))
 
       module _ (f : whole ≡ true) (new : ℕ) (u : new ≡ length (unknowns before (recordsIn bytes))) where
-        pub new-is : new ≡ length (newOnes (bookOf ws) (messageOf bytes))
+        new-is : new ≡ length (newOnes (bookOf ws) (messageOf bytes))
         unfolding newOnes
         new-is = u ∙ ap₂ (λ (s : Stamp) (rs : List Record). length (unknowns s rs)) q (sym (records-are bytes))
 
@@ -93,8 +93,9 @@ module _ (ws bytes : List ℕ) (j n count : ℕ) (m : Stamp) (w : T (lawful ws))
           done : GossipDone (bookOf ws) (messageOf bytes) × (gossipStep (bookOf ws) (messageOf bytes) ≡ gossip-out (bookOf ws) (messageOf bytes))
           done = unstopped (bookOf ws) (messageOf bytes) sound-now (message-fits bytes j n count m h) (by-message ∙ past) nothing
 
-          pub gossip-done : GossipDone (bookOf ws) (messageOf bytes)
-          gossip-done = done .0
+          pub take-asks :
+              GossipDone (bookOf ws) (messageOf bytes) × ((j ≢ (bookOf ws) .me) × ((before ≡ known (bookOf ws)) × (new ≡ length (newOnes (bookOf ws) (messageOf bytes)))))
+          take-asks = (done .0, (at-home .1, (q, new-is)))
 
           pub taken-in :
               (applied : ℕ) (vs : List ℕ) → applied ≡ length (nowApplied (bookOf ws) (merge (known (bookOf ws)) (messageOf bytes .stamp)) (newOnes (bookOf ws) (messageOf bytes)))

@@ -83,7 +83,14 @@ fn take_records(b: &mut [u64], j: usize, msg: &[u8], count: usize, n: usize, m: 
 }
 
 // A well formed gossip, its head read, on a sound book.
-pub fn take_gossip(b: &mut [u64], msg: &[u8], sender: u64, screens: u64, count: u64, stamp: Parts) -> Reply
+pub fn take_gossip(
+    b: &mut [u64],
+    msg: &[u8],
+    sender: u64,
+    screens: u64,
+    count: u64,
+    stamp: Parts,
+) -> Reply
     requires { ⌜ T (lawful (now b)) ⌝ }
     requires { ⌜ Heard (now msg) sender screens count (listOf stamp) ⌝ }
     ensures { λ r. ⌜ Promise (lentOf (gossipStep (bookOf (now (b .entry))) (messageOf (now (msg .entry))))) r (now (b .exit)) ⌝ }
@@ -93,5 +100,12 @@ pub fn take_gossip(b: &mut [u64], msg: &[u8], sender: u64, screens: u64, count: 
     if first != NONE {
         return Reply::Refused(first);
     }
-    take_records(b, sender as usize, msg, count as usize, screens as usize, stamp)
+    take_records(
+        b,
+        sender as usize,
+        msg,
+        count as usize,
+        screens as usize,
+        stamp,
+    )
 }

@@ -31,7 +31,13 @@ pub fn row_for(msg: &[u8], i: usize, n: usize, m: Parts) -> [u64; ROW]
     ensures { λ r. ⌜ recordAt r ≡ recordNo (now (msg .entry)) i ⌝ }
 {
     let next = record_at(msg, i, n, m);
-    let Said::Record { origin, number, label, tap } = next else {
+    let Said::Record {
+        origin,
+        number,
+        label,
+        tap,
+    } = next
+    else {
         return [0u64; ROW];
     };
     [
@@ -59,7 +65,14 @@ fn one_new(row: &[u64], known: &[u64]) -> usize
 
 // One pass over the records: how far the numbers of each origin go without a gap from those reached, written over them. Gives
 // how many records are not known under a stamp.
-pub fn survey(msg: &[u8], count: usize, n: usize, m: Parts, known: &[u64], reached: &mut [u64]) -> usize
+pub fn survey(
+    msg: &[u8],
+    count: usize,
+    n: usize,
+    m: Parts,
+    known: &[u64],
+    reached: &mut [u64],
+) -> usize
     requires { ⌜ Head (now msg) n (listOf m) ⌝ }
     requires { ⌜ countIn (now msg) ≡ count ⌝ }
     ensures { λ _. ⌜ (now (reached .exit) ≡ climb (now (reached .entry)) (recordsIn (now (msg .entry)))) × (length (now (reached .exit)) ≡ length (now (reached .entry))) ⌝ }

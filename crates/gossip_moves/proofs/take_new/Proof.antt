@@ -1,33 +1,23 @@
 -- `gossip_moves::take_new` meets its contract. Assumes nothing.
-use Prim.Native.Nat.{ℕ, _+_, _-_, _*_, _≤_, _<_}
+use Prim.Native.Nat.{ℕ, _+_, _<_}
 use native.Mathlib.Omega.{arith}
-use mathlib.Core.Path.{_≡_, refl, sym, ap, subst, _∙_}
-use mathlib.Core.List.{List, [], _∷_, _++_}
-use lib.ListN.{length, getD, set, take, drop}
-use Rattle.lists.specs.Part.{mid, patch, length-mid}
-use Rattle.stamp.specs.Parts.{listOf}
-use Rattle.stamp.specs.Stamp.{Stamp, merge}
+use mathlib.Core.Path.{ap, _∙_}
+use mathlib.Core.List.{List}
+use lib.ListN.{getD, set}
 use Rattle.ledger.specs.Log.{unknowns}
-use Rattle.log.specs.Region.{rowLong, stampLong}
 use Rattle.gossip.specs.Message.{recordsIn}
 use Rattle.layout.specs.Words.{bookOf}
-use Rattle.moves.specs.Places.{held-long, screens-most, log-count}
-use Rattle.gossip_moves.specs.Taken.{rowMerged}
-use Rattle.gossip_moves.proofs.Put.{row-raised, first-held, own-row, rows-raised, log-taken}
+use Rattle.moves.specs.Places.{held-long, log-count}
+use Rattle.gossip_moves.proofs.Put.{log-taken}
 use borrow.Author.Needs.{needs}
 use Rattle.gossip_moves.proofs.take_new.Statement.{statement}
 use Rattle.gossip_moves.proofs.take_new.Tie as tie
-use Rattle.gossip_moves.proofs.take_new.Reads as reads
-use Rattle.gossip_moves.proofs.take_new.Lts as lts
-use Rattle.gossip_moves.proofs.merge_at.Reads as merge-at-reads
 
--- src/lib.rt:210:18
 slice-read-logged : tie.Need-slice-read-logged
 slice-read-logged c =
     let s = c .before .before .before .before in
     omega (arith, held-long (s .args .b .now) (s .pre .0))
 
--- src/lib.rt:211:5
 merge-at-requires : tie.Need-merge-at-requires
 unfolding bookOf
 merge-at-requires c κs =
@@ -35,23 +25,16 @@ merge-at-requires c κs =
     let ws = s .args .b .now in
     ((omega arith, omega (arith, held-long ws (s .pre .0)), omega (arith, log-count ws (s .pre .0), s .pre .1 .1 .1)), (s .pre .1 .0, s .pre .1 .1 .0))
 
--- src/lib.rt:212:18
 add-b : tie.Need-add-b
 add-b c =
     let s = c .before .before .before .before .before .before .before .before in
     record { fits = omega (arith, log-count (s .args .b .now) (s .pre .0), s .pre .1 .1 .1) }
 
--- src/lib.rt:212:5
 slice-write-b : tie.Need-slice-write-b
 slice-write-b c =
     let s = c .before .before .before .before .before .before .before .before in
     omega (arith, held-long (s .args .b .now) (s .pre .0))
 
--- src/lib.rt:203:1
-same-length : tie.Need-same-length
-same-length c = search needs
-
--- src/lib.rt:203:1
 returns : tie.Need-returns
 returns c =
     let m = c .before .before in
@@ -64,4 +47,4 @@ returns c =
 pub take-new-spec : {M : Type 1} → statement M
 take-new-spec =
     tie.close
-    (tie.spec slice-read-logged merge-at-requires add-b slice-write-b same-length returns)
+    (tie.spec slice-read-logged merge-at-requires add-b slice-write-b (λ c. search needs) returns)

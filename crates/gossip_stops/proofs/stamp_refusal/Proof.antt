@@ -1,34 +1,23 @@
 -- `gossip_stops::stamp_refusal` meets its contract. Assumes nothing.
-use Prim.Native.Nat.{ℕ, _+_, _-_, _*_, _≤_, _<_}
+use Prim.Native.Nat.{ℕ, _<_}
 use native.Mathlib.Omega.{arith}
-use mathlib.Core.Path.{_≡_, refl, sym, ap, subst, _∙_}
+use mathlib.Core.Path.{_≡_, sym, ap, subst, _∙_}
 use mathlib.Core.Logic.{_≢_}
-use mathlib.Core.Bool.{Bool, not}
-use mathlib.Core.List.{List, [], _∷_, _++_}
-use borrow.Author.Tests.{not-true, not-false}
 use lib.Dec.{T, ltb}
 use lib.ListN.{length, getD}
 use Rattle.lists.specs.Tests.{every}
-use Rattle.stamp.specs.Limits.{parts, word}
-use Rattle.stamp.specs.Laws.{length-merge}
-use Rattle.stamp.specs.Parts.{listOf}
-use Rattle.stamp.specs.Stamp.{Stamp, merge, total, stampFits}
-use Rattle.meaning.specs.Book.{row, known}
+use Rattle.stamp.specs.Limits.{word}
+use Rattle.stamp.specs.Stamp.{Stamp, merge, stampFits}
+use Rattle.meaning.specs.Book.{known}
 use Rattle.meaning.specs.BookLaws.{me-in}
 use Rattle.layout.specs.SoundWords.{lawful-sound, lawful-held}
 use Rattle.layout.specs.Words.{bookOf}
-use Rattle.moves.specs.Places.{held-long, screens-most, me-small}
-use Rattle.gossip_stops.specs.Refusals.{rowRefusal, ownRefusal, stampRefusal}
-use Rattle.gossip_stops.proofs.Lines.{whole-stamp, eight-parts, me-word, screens-word, row-read, merged-words, row-old, row-crossed, row-newer, own-ahead, own-spent, own-room, other-house, from-self, by-row, by-own}
+use Rattle.moves.specs.Places.{held-long, me-small}
+use Rattle.gossip_stops.specs.Refusals.{rowRefusal, ownRefusal}
+use Rattle.gossip_stops.proofs.Lines.{eight-parts, me-word, screens-word, merged-words, other-house, from-self, by-row, by-own}
 use borrow.Author.Needs.{needs}
 use Rattle.gossip_stops.proofs.stamp_refusal.Statement.{statement}
 use Rattle.gossip_stops.proofs.stamp_refusal.Tie as tie
-use Rattle.gossip_stops.proofs.stamp_refusal.Reads as reads
-use Rattle.gossip_stops.proofs.stamp_refusal.Lts as lts
-use Rattle.gossip_stops.proofs.own_refusal.Reads as own-refusal-reads
-use Rattle.gossip_stops.proofs.row_of.Reads as row-of-reads
-use Rattle.gossip_stops.proofs.row_refusal.Reads as row-refusal-reads
-use Rattle.moves.proofs.known_of.Reads as known-of-reads
 
 -- past the two first tests the message is of this house, and from another screen
 at-home : (c : tie.Else1) → let w = c .before .before .before .before .args in w .screens ≡ (bookOf (w .b .now)) .screens
@@ -37,51 +26,40 @@ at-home c = c .if1 .left ∙ sym (screens-word (c .before .before .before .befor
 not-self : (c : tie.Else2) → let w = c .before .before .before .before .before .before .args in w .sender ≢ (bookOf (w .b .now)) .me
 not-self c e = c .if2 .left (e ∙ me-word (c .before .before .before .before .before .before .args .b .now))
 
--- src/lib.rt:127:19
 shared-slice-read-if1 : tie.Need-shared-slice-read-if1
 shared-slice-read-if1 c =
     let s = c .before .before .before in
     omega (arith, held-long (s .args .b .now) (lawful-held (s .args .b .now) (s .pre .0)))
 
--- src/lib.rt:128:9
 returns : tie.Need-returns
 returns c =
     let s = c .before .before .before .before in
     let w = s .args in
     other-house (bookOf (w .b .now)) (w .sender) (w .screens) (w .m .now) (λ e. c .if1 .taken (e ∙ screens-word (w .b .now)))
 
--- src/lib.rt:130:14
 shared-slice-read-me : tie.Need-shared-slice-read-me
 shared-slice-read-me c =
     let s = c .before .before .before .before .before in
     omega (arith, held-long (s .args .b .now) (lawful-held (s .args .b .now) (s .pre .0)))
 
--- src/lib.rt:132:9
 returns-2 : tie.Need-returns-2
 returns-2 c =
     let t = c .before .before in
     let w = t .before .before .before .before .args in
     from-self (bookOf (w .b .now)) (w .sender) (w .screens) (w .m .now) (at-home t) (c .if2 .taken ∙ sym (me-word (w .b .now)))
 
--- src/lib.rt:134:15
 row-of-requires : tie.Need-row-of-requires
 row-of-requires c κs =
     let t = c .before .before in
     let s = t .before .before .before .before in
     (lawful-held (s .args .b .now) (s .pre .0), omega (arith, s .pre .1 .0, at-home t))
 
--- src/lib.rt:135:29
-slice-aggregate-row-refusal : tie.Need-slice-aggregate-row-refusal
-slice-aggregate-row-refusal c = search needs
-
--- src/lib.rt:135:9
 row-refusal-requires : tie.Need-row-refusal-requires
 row-refusal-requires c κs =
     let s = c .before .before .before .before .before .before .before .before in
     let e : length (c .before .row-of .result) ≡ 8 = search needs in
     e ∙ sym (eight-parts (s .args .screens) (s .args .m .now) (s .pre .1 .1))
 
--- src/lib.rt:137:9
 returns-3 : tie.Need-returns-3
 returns-3 c =
     let r = c .before in
@@ -91,18 +69,12 @@ returns-3 c =
     let e = r .row-refusal .ensures ∙ ap (λ (x : Stamp). rowRefusal x (w .m .now)) (o .row-of .ensures) in
     e ∙ by-row (bookOf (w .b .now)) (w .sender) (w .screens) (w .m .now) (at-home t) (not-self (o .before)) (λ z. c .if3 .taken (e ∙ z))
 
--- src/lib.rt:139:17
 known-of-requires : tie.Need-known-of-requires
 known-of-requires c κs =
     let s = c .before .before .before .before .before .before .before .before .before .before in
     let ws = s .args .b .now in
     (lawful-held ws (s .pre .0), me-in (bookOf ws) (lawful-sound ws (s .pre .0)))
 
--- src/lib.rt:140:17
-slice-aggregate-own-refusal : tie.Need-slice-aggregate-own-refusal
-slice-aggregate-own-refusal c = search needs
-
--- src/lib.rt:140:5
 own-refusal-requires : tie.Need-own-refusal-requires
 own-refusal-requires c κs =
     let k = c .before in
@@ -113,7 +85,6 @@ own-refusal-requires c κs =
     let fit = subst (λ (n : ℕ). T (stampFits n (s .args .m .now))) (at-home t) (s .pre .1 .1) in
     ((e, eight-parts (s .args .screens) (s .args .m .now) (s .pre .1 .1), me-small ws (lawful-held ws (s .pre .0)) (me-in (bookOf ws) (lawful-sound ws (s .pre .0)))), subst (λ (x : Stamp). T (every (λ y. ltb y word) (merge x (s .args .m .now)))) (sym (k .known-of .ensures)) (merged-words ws (s .pre .0) (s .args .m .now) fit))
 
--- src/lib.rt:122:1
 returns-4 : tie.Need-returns-4
 returns-4 c =
     let k = c .before .before in
@@ -134,10 +105,10 @@ stamp-refusal-spec =
     shared-slice-read-me
     returns-2
     row-of-requires
-    slice-aggregate-row-refusal
+    (λ c. search needs)
     row-refusal-requires
     returns-3
     known-of-requires
-    slice-aggregate-own-refusal
+    (λ c. search needs)
     own-refusal-requires
     returns-4)
