@@ -74,7 +74,13 @@ pub fn gossip(b: &mut [u64], msg: &[u8]) -> Reply
         return Reply::Refused(UNSOUND);
     }
     let said = read_gossip(msg);
-    let Said::Head { sender, screens, count, stamp } = said else {
+    let Said::Head {
+        sender,
+        screens,
+        count,
+        stamp,
+    } = said
+    else {
         return Reply::Refused(BAD);
     };
     take_gossip(b, msg, sender, screens, count, stamp)
