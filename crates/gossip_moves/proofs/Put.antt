@@ -121,13 +121,12 @@ module _ (ws : List ℕ) (h : Held ws) (j : ℕ) (m : Stamp) (k : Raisable (book
       ∙ ap₂ (λ (x y : Stamp). wordsOf (withTable (set (set ((bookOf ws) .table) j x) ((bookOf ws) .me) (merge y m)) (bookOf ws))) set-to own-still
 
 -- new records in the log
-module _ (ws : List ℕ) (h : Held ws) (new : List Record) (fresh : Fresh new ((bookOf ws) .log)) (n : ℕ) (e : n ≡ length new) (room : length ((bookOf ws) .log) + n ≤ 256) where
+module _ (ws : List ℕ) (h : Held ws) (new : List Record) (fresh : Fresh new ((bookOf ws) .log)) (n : ℕ) (e : n ≡ length new) (room : length ((bookOf ws) .log) + n ≤ logRoom) where
   log-words : mid 76 2816 ws ≡ logWords logRoom ((bookOf ws) .log)
   unfolding pieces
   log-words = ap (mid 76 2816) (sym (h .words)) ∙ piece-back (bookOf ws) (h .shape) 3 (omega arith)
 
   in-room : length ((bookOf ws) .log) + length new ≤ logRoom
-  unfolding logRoom
   in-room = omega (arith, room, e)
 
   pub log-taken : set (patch 76 2816 ws (merged new (getD ws 2 0) n (mid 76 2816 ws))) 2 (getD ws 2 0 + n) ≡ wordsOf (withLog (gathered new ((bookOf ws) .log)) (bookOf ws))

@@ -15,6 +15,7 @@ ghost use lib.ListN.{length, set};
 ghost use Rattle.lists.specs.Part.{mid, patch};
 ghost use Rattle.stamp.specs.Parts.{listOf};
 ghost use Rattle.stamp.specs.Stamp.{merge};
+ghost use Rattle.ledger.specs.Limits.{logRoom};
 ghost use Rattle.ledger.specs.Log.{gathered, unknowns};
 ghost use Rattle.log.specs.Region.{rowLong, stampLong, recordsAt};
 ghost use Rattle.log_moves.specs.Merge.{Fresh, merged};
@@ -97,7 +98,7 @@ pub fn take_new(
     requires { ⌜ Held (now b) ⌝ }
     requires { ⌜ Coming (now msg) n count (listOf m) (now known) new ⌝ }
     requires { ⌜ Fresh (unknowns (now known) (recordsIn (now msg))) ((bookOf (now b)) .log) ⌝ }
-    requires { ⌜ length ((bookOf (now b)) .log) + new ≤ 256 ⌝ }
+    requires { ⌜ length ((bookOf (now b)) .log) + new ≤ logRoom ⌝ }
     ensures { λ _. ⌜ now (b .exit) ≡ wordsOf (withLog (gathered (unknowns (now (known .entry)) (recordsIn (now (msg .entry)))) ((bookOf (now (b .entry))) .log)) (bookOf (now (b .entry)))) ⌝ }
 {
     let logged = b[LOGGED] as usize;

@@ -160,11 +160,10 @@ module _ (ws bytes : List ℕ) (j n count : ℕ) (m : Stamp) (w : T (lawful ws))
       still-fresh : Fresh (unknowns before (recordsIn bytes)) ((bookOf vs) .log)
       still-fresh = rw (new-are, rows-book) (fresh b sound-now rows new ready)
 
-      in-room : length ((bookOf vs) .log) + k ≤ 256
-      unfolding logRoom
+      in-room : length ((bookOf vs) .log) + k ≤ logRoom
       in-room = omega (arith, ap (λ (x : Book). length (x .log)) rows-book, u, d .room)
 
-      pub rows-give : Held vs × (Coming bytes n count m before k × (Fresh (unknowns before (recordsIn bytes)) ((bookOf vs) .log) × (length ((bookOf vs) .log) + k ≤ 256)))
+      pub rows-give : Held vs × (Coming bytes n count m before k × (Fresh (unknowns before (recordsIn bytes)) ((bookOf vs) .log) × (length ((bookOf vs) .log) + k ≤ logRoom)))
       rows-give = (rows-held, (coming, (still-fresh, in-room)))
 
       module _ (us : List ℕ) (f : us ≡ wordsOf (withLog (gathered (unknowns before (recordsIn bytes)) ((bookOf vs) .log)) (bookOf vs))) where

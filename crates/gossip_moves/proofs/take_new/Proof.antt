@@ -4,6 +4,7 @@ use native.Mathlib.Omega.{arith}
 use mathlib.Core.Path.{ap, _∙_}
 use mathlib.Core.List.{List}
 use lib.ListN.{getD, set}
+use Rattle.ledger.specs.Limits.{logRoom}
 use Rattle.ledger.specs.Log.{unknowns}
 use Rattle.gossip.specs.Message.{recordsIn}
 use Rattle.layout.specs.Words.{bookOf}
@@ -19,13 +20,14 @@ slice-read-logged c =
     omega (arith, held-long (s .args .b .now) (s .pre .0))
 
 merge-at-requires : tie.Need-merge-at-requires
-unfolding bookOf
+unfolding bookOf logRoom
 merge-at-requires c κs =
     let s = c .before .before .before .before .before in
     let ws = s .args .b .now in
     ((omega arith, omega (arith, held-long ws (s .pre .0)), omega (arith, log-count ws (s .pre .0), s .pre .1 .1 .1)), (s .pre .1 .0, s .pre .1 .1 .0))
 
 add-b : tie.Need-add-b
+unfolding logRoom
 add-b c =
     let s = c .before .before .before .before .before .before .before .before in
     record { fits = omega (arith, log-count (s .args .b .now) (s .pre .0), s .pre .1 .1 .1) }
