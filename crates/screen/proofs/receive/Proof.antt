@@ -1,0 +1,36 @@
+-- `screen::receive` is safe and ends. Assumes nothing.
+use Prim.Native.Nat.{_≤_, _-_}
+use lib.ListN.{length}
+use mathlib.Core.Path.{_≡_}
+use borrow.Author.Needs.{needs}
+use Rattle.screen.proofs.receive.Statement.{statement}
+use Rattle.screen.proofs.receive.Tie as tie
+
+abbrev Inv-loop : tie.InvT-loop
+Inv-loop msg₀ opened have₀ turns₀ msg have turns = (turns ≤ 4) × (length msg ≡ length msg₀)
+
+abbrev μ-loop : tie.MeasureT-loop
+μ-loop msg₀ opened have₀ turns₀ msg have turns = 4 - turns
+
+pub receive-spec : {M : Type 1} → statement M
+receive-spec =
+    tie.close
+    (tie.spec
+    Inv-loop
+    μ-loop
+    (λ c. search needs)
+    (λ c κs. search needs)
+    (λ c. search needs)
+    (λ c. search needs)
+    (λ c. search needs)
+    (λ c. search needs)
+    (λ c κs. search needs)
+    (λ c. search needs)
+    (λ c. search needs)
+    (λ c. search needs)
+    (λ c. search needs)
+    (λ c. search needs)
+    (λ c. search needs)
+    (λ c. search needs)
+    (λ c. search needs)
+    (λ c. search needs))

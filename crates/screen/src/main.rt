@@ -1,0 +1,187 @@
+// A screen as a program: standard input holds one kind 11, then kinds 1, 3, 4 and 12; the replies go to standard output.
+use answers::Reply;
+use book::gossip;
+use book::open;
+use book::question;
+use book::send;
+use book::tap;
+use frames::Frame;
+use frames::frame_of;
+use layout::BOOK;
+use libc::STDIN_FILENO;
+use libc::STDOUT_FILENO;
+use opening::Opening;
+use requests::read_open;
+use speech::speak;
+use wire::BAD;
+use wire::HEAD;
+use wire::QUESTION;
+use wire::Said;
+use wire::TAP;
+use wire::Written;
+ghost use Prim.Native.Nat.{_≤_};
+ghost use lib.ListN.{length};
+
+// The longest message: a head and 256 records.
+const LONGEST: usize = 12069;
+
+// What comes next: a whole message of so many bytes, the end between messages, or bytes that stop the program.
+enum Next {
+    Message(usize),
+    End,
+    Broken,
+}
+
+// Writes what stands at the front of out; false if it cannot.
+fn write_front(wrote: Written, out: &[u8]) -> bool {
+    match wrote {
+        Written::Wrote(n) => {
+            if out.len() < n {
+                return false;
+            }
+            io::write_all(STDOUT_FILENO, &out[0..n])
+        }
+        Written::Refused(_) => false,
+    }
+}
+
+fn say(reply: Reply, out: &mut [u8]) -> bool {
+    let wrote = speak(reply, out);
+    write_front(wrote, out)
+}
+
+// Reads up to n bytes in all behind the `have` that are there; how many there are then.
+fn read_up_to(msg: &mut [u8], have: usize, n: usize) -> usize {
+    if n <= have {
+        return have;
+    }
+    if msg.len() < n {
+        return have;
+    }
+    let got = io::read_full(STDIN_FILENO, &mut msg[have..n]);
+    if n - have < got {
+        return have;
+    }
+    have + got
+}
+
+// How many bytes are wanted in all, or none where the bytes stop the program.
+fn wanted(msg: &[u8], have: usize, opened: bool) -> usize {
+    if msg.len() < have {
+        return 0;
+    }
+    let frame = frame_of(&msg[0..have], opened);
+    match frame {
+        Frame::More(n) => n,
+        Frame::Whole(n) => n,
+        Frame::Stop => 0,
+    }
+}
+
+// The next message, read to the front of msg. Framing asks at most three times: the kind, a head's count, the whole.
+fn receive(msg: &mut [u8], opened: bool) -> Next {
+    let mut have: usize = 0;
+    let mut turns: usize = 0;
+    while turns < 4 {
+        let n = wanted(msg, have, opened);
+        if n == 0 {
+            return Next::Broken;
+        }
+        if n <= have {
+            return Next::Message(have);
+        }
+        let there = read_up_to(msg, have, n);
+        if there < n {
+            if there == 0 {
+                return Next::End;
+            }
+            return Next::Broken;
+        }
+        have = there;
+        turns += 1;
+    }
+    Next::Broken
+}
+
+// The reply to one whole message.
+fn reply_to(book: &mut [u64], msg: &[u8], out: &mut [u8]) -> bool {
+    if msg.len() == 0 {
+        return false;
+    }
+    let kind = msg[0];
+    match kind {
+        TAP => {
+            let r = tap(book, msg);
+            say(r, out)
+        }
+        QUESTION => {
+            let r = question(book, msg);
+            say(r, out)
+        }
+        HEAD => {
+            let r = gossip(book, msg);
+            say(r, out)
+        }
+        _ => {
+            let wrote = send(book, out);
+            write_front(wrote, out)
+        }
+    }
+}
+
+// One message and its reply; false when the program is to stop.
+fn turn(book: &mut [u64], msg: &mut [u8], out: &mut [u8]) -> bool {
+    let next = receive(msg, true);
+    match next {
+        Next::Message(n) => {
+            if msg.len() < n {
+                return false;
+            }
+            reply_to(book, &msg[0..n], out)
+        }
+        Next::End => false,
+        Next::Broken => {
+            say(Reply::Refused(BAD), out);
+            false
+        }
+    }
+}
+
+// Kind 11, first of all; false where it is refused or missing.
+fn begin(book: &mut [u64], msg: &mut [u8], out: &mut [u8]) -> bool {
+    let next = receive(msg, false);
+    let Next::Message(n) = next else {
+        say(Reply::Refused(BAD), out);
+        return false;
+    };
+    if msg.len() < n {
+        return false;
+    }
+    let said = read_open(&msg[0..n]);
+    let Said::Open { screen, screens } = said else {
+        say(Reply::Refused(BAD), out);
+        return false;
+    };
+    let opening = open(book, screen, screens);
+    let Opening::Refused(number) = opening else {
+        return true;
+    };
+    say(Reply::Refused(number), out);
+    false
+}
+
+fn main() {
+    let mut book = [0u64; BOOK];
+    let mut msg = [0u8; LONGEST];
+    let mut out = [0u8; LONGEST];
+    if !begin(&mut book, &mut msg, &mut out) {
+        return;
+    }
+    let mut turns = u64::MAX;
+    while turns > 0 {
+        if !turn(&mut book, &mut msg, &mut out) {
+            return;
+        }
+        turns -= 1;
+    }
+}
