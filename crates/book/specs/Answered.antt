@@ -1,0 +1,40 @@
+-- A law on the question's promise: a well-formed question to a sound book is answered exactly when the book's value stamp covers
+-- its label. Assumes nothing.
+use Prim.Native.Nat.{ℕ}
+use mathlib.Core.Path.{_≡_, sym, ap, subst, _∙_}
+use mathlib.Core.Bool.{Bool, true, _&&_, cond}
+use mathlib.Core.List.{List}
+use lib.Dec.{T, ltb, ltb→lt}
+use lib.ListN.{getD}
+use Rattle.lists.specs.Facts.{and-l, and-r}
+use Rattle.stamp.specs.Stamp.{Stamp, atMost, stampFits}
+use Rattle.tally.specs.Limits.{promptCount}
+use Rattle.wire.specs.Kinds.{shaped, stampAt, questionKind}
+use Rattle.wire.specs.Read.{lineOf, readable}
+use Rattle.meaning.specs.AnswerLaws.{answered-exactly}
+use Rattle.meaning.specs.Book.{sound}
+use Rattle.meaning.specs.BookLaws.{at-sound}
+use Rattle.meaning.specs.Reply.{isAnswered, refusal}
+use Rattle.meaning.specs.Step.{ask}
+use Rattle.layout.specs.SoundWords.{lawful-sound}
+use Rattle.layout.specs.Words.{bookOf, lawful}
+use Rattle.answers.specs.Lent.{heard, questionOn}
+use Rattle.answers.specs.LentLaws.{lentOf}
+
+-- the label that a question's bytes hold
+abbrev pub labelOf : List ℕ → List ℕ → Stamp
+labelOf ws bytes = stampAt 2 (lineOf (questionKind (bookOf ws .screens)) bytes)
+
+pub question-answered :
+    (ws bytes : List ℕ) → lawful ws ≡ true → readable (questionKind (bookOf ws .screens)) bytes ≡ true
+    → isAnswered (questionOn ws bytes .reply) ≡ atMost (labelOf ws bytes) (bookOf ws .value)
+unfolding questionOn readable questionKind
+question-answered ws bytes e r =
+    let b = bookOf ws in
+    let line = lineOf (questionKind (b .screens)) bytes in
+    let kept : T (ltb (getD line 1 0) promptCount && stampFits (b .screens) (stampAt 2 line)) = and-r (shaped 4 bytes) (ltb (getD line 1 0) promptCount && stampFits (b .screens) (stampAt 2 line)) (subst T (sym r) tt) in
+    let o = ask b (getD line 1 0) (stampAt 2 line) in
+    ap (λ (c : Bool). isAnswered (cond c (lentOf (heard (readable (questionKind (b .screens)) bytes) b o)) (record { reply = refusal 11; words = ws }) .reply)) e
+    ∙ ap (λ (c : Bool). isAnswered (heard c b o .reply)) r
+    ∙ answered-exactly b (getD line 1 0) (stampAt 2 line) (at-sound b (lawful-sound ws (subst T (sym e) tt))) (ltb→lt (getD line 1 0) promptCount (and-l (ltb (getD line 1 0) promptCount) (stampFits (b .screens) (stampAt 2 line)) kept))
+    (and-r (ltb (getD line 1 0) promptCount) (stampFits (b .screens) (stampAt 2 line)) kept)
