@@ -1,0 +1,190 @@
+-- Laws: what each answer owes, of what the operation promises and what stands at the output's front. Assumes nothing.
+use Prim.Native.Nat.{ℕ, _≤_, _<_}
+use native.Mathlib.Omega.{arith}
+use mathlib.Core.Path.{_≡_, refl, sym, ap, ap₂, subst, _∙_}
+use mathlib.Core.Logic.{_⊎_, inl, inr}
+use mathlib.Core.Bool.{Bool, true, false, cond}
+use mathlib.Core.List.{List, [], _∷_, _++_}
+use mathlib.Core.Option.{some}
+use borrow.Author.Tests.{ltb-true, ltb-false, eq-eqb, ne-eqb}
+use lib.Dec.{T, eqb, ltb}
+use lib.ListN.{length, getD, drop}
+use Rattle.lists.specs.Facts.{either}
+use Rattle.wire.specs.Kinds.{openKind}
+use Rattle.wire.specs.Read.{lineOf, readable, readAs}
+use Rattle.wire.specs.Write.{Output, Meets, refuse}
+use Rattle.wire.specs.declared.Said.the-variants as said
+use Rattle.wire.specs.declared.Written.{Written}
+use Rattle.wire.specs.declared.Written.the-variants.{Wrote, Refused}
+use Rattle.gossip.specs.Message.{bytesOf}
+use Rattle.meaning.specs.Reply.{Reply, refusal}
+use Rattle.meaning.specs.Step.{send}
+use Rattle.layout.specs.Words.{bookLong, bookOf, lawful}
+use Rattle.answers.specs.Lent.{Lent, Promise, tapOn, questionOn, gossipOn, sendOn, openOn}
+use Rattle.answers.specs.Spoken.{spoken}
+use Rattle.answers.specs.declared.Reply as answer
+use Rattle.answers.specs.declared.Reply.the-variants as says
+use Rattle.opening.specs.Opening.{Opens}
+use Rattle.opening.specs.OpeningLaws.{wrong-length}
+use Rattle.opening.specs.declared.Opening as opening
+use Rattle.opening.specs.declared.Opening.the-variants as opened
+use Rattle.book.specs.Heard.{owes-unsound, owes-unread, told}
+use Rattle.speech.specs.Speech.{bytesFor, sayable, sayOn, tapLong, questionLong, gossipLong}
+use Rattle.speech.specs.SpeechLaws.{says-front, reply-long}
+use Rattle.answering.specs.Answer.{Done, doneBy, sendSays, sendDone, badOn, refusalLong, otherDone, kindIn, doneOn, answerBy, Answers, openFrom, longIn}
+use Rattle.answering.specs.AnswerLaws.{short, front, unsound-says}
+
+-- no bytes have kind 0
+pub no-kind : (bytes : List ℕ) → length bytes ≡ 0 → 0 ≡ kindIn bytes
+no-kind [] e = refl
+no-kind (x ∷ bytes) e = absurd (omega arith)
+
+-- what is owed for what a message comes to
+pub same-done : {d e : Done} (ws out : List ℕ) (long : ℕ) (words bytes : List ℕ) → d ≡ e → Answers (answerBy e ws out) long words bytes → Answers (answerBy d ws out) long words bytes
+same-done ws out long words bytes q a = subst (λ (x : Done). Answers (answerBy x ws out) long words bytes) (sym q) a
+
+-- a reply at the front of an output that has room for it
+pub put-long : (q : Reply) (out : List ℕ) (w : Written) (bytes : List ℕ) → T (sayable q) → length (bytesFor q) ≤ length out → Meets (sayOn q out) w bytes → longIn w ≡ length (bytesFor q)
+put-long q out w bytes t h m = ap longIn (m .answers ∙ ap (λ (o : Output). o .answer) (says-front q out t h))
+
+pub put-bytes : (q : Reply) (out : List ℕ) (w : Written) (bytes : List ℕ) → T (sayable q) → length (bytesFor q) ≤ length out → Meets (sayOn q out) w bytes → bytes ≡ bytesFor q ++ drop (length (bytesFor q)) out
+put-bytes q out w bytes t h m = m .leaves ∙ ap (λ (o : Output). o .bytes) (says-front q out t h)
+
+-- an operation's answer, within the room that was asked for
+module _ (room : ℕ) (o : Lent) (out words : List ℕ) (r : answer.Reply) (p : Promise o r words) (h : room ≤ length out) where
+  pub ready : T (sayable (o .reply)) → length (bytesFor (o .reply)) ≤ room → T (sayable (spoken r)) × (length (bytesFor (spoken r)) ≤ length out)
+  ready t l = (subst (λ (q : Reply). T (sayable q)) (sym (p .answers)) t, omega (arith, ap (λ (q : Reply). length (bytesFor q)) (p .answers)))
+
+  pub owes :
+      (ws : List ℕ) (long : ℕ) (bytes : List ℕ) → long ≡ length (bytesFor (spoken r)) → bytes ≡ bytesFor (spoken r) ++ drop (length (bytesFor (spoken r))) out
+      → Answers (answerBy (doneBy room o) ws out) long words bytes
+  owes ws long bytes e f =
+      let a = front (doneBy room o) ws out h in
+      record {
+        gives = e ∙ ap (λ (q : Reply). length (bytesFor q)) (p .answers) ∙ a .gives;
+        leaves = p .leaves ∙ a .leaves;
+        writes = f ∙ ap (λ (q : Reply). bytesFor q ++ drop (length (bytesFor q)) out) (p .answers) ∙ a .writes;
+      }
+
+-- bytes that are no request
+module _ (ws : List ℕ) where
+  pub bad-unsound : lawful ws ≡ false → Promise (badOn ws) (says.Refused 11) ws
+  bad-unsound e = owes-unsound ws e (record { reply = refusal 1; book = bookOf ws })
+
+  pub bad-unread : lawful ws ≡ true → Promise (badOn ws) (says.Refused 1) ws
+  bad-unread e = owes-unread ws e false refl (record { reply = refusal 1; book = bookOf ws })
+
+-- send's
+module _ (ws out : List ℕ) where
+  message : List ℕ
+  message = bytesOf (send (bookOf ws))
+
+  abbrev sent : Bool → Bool → Output
+  sent sound short = cond sound (cond short (refuse 12 out) (record { answer = Wrote (length message); bytes = message ++ drop (length message) out })) (refuse 11 out)
+
+  abbrev done : Bool → Done
+  done sound = let says = cond sound message (bytesFor (refusal 11)) in record { room = length says; says = says; words = ws }
+
+  pub send-wrote : (n : ℕ) (bytes : List ℕ) (w : Written) → w ≡ Wrote n → Meets (sendOn ws out) w bytes → Answers (answerBy (sendDone ws) ws out) n ws bytes
+  unfolding sendOn message
+  send-wrote n bytes w f m = go (lawful ws) (ltb (length out) (length message)) refl (subst (λ (x : Written). Meets (sendOn ws out) x bytes) f m)
+    where
+      go : (sound short : Bool) → ltb (length out) (length message) ≡ short → Meets (sent sound short) (Wrote n) bytes → Answers (answerBy (done sound) ws out) n ws bytes
+      go true true e q = let a = q .answers in let z : _≡_ {A = ℕ} 0 1 = cc in absurd (omega arith)
+      go true false e q =
+          let a = front (done true) ws out (ltb-false (length out) (length message) e) in
+          let same : n ≡ length message = let x = q .answers in cc in
+          record { gives = same ∙ a .gives; leaves = a .leaves; writes = q .leaves ∙ a .writes }
+      go false short e q = let a = q .answers in let z : _≡_ {A = ℕ} 0 1 = cc in absurd (omega arith)
+
+  -- 12 and nothing done, or 11
+  send-refused : (k : ℕ) (bytes : List ℕ) → Meets (sendOn ws out) (Refused k) bytes → (bytes ≡ out) × (((k ≡ 12) × (length out < length (sendSays ws))) ⊎ ((k ≡ 11) × (sendSays ws ≡ bytesFor (refusal 11))))
+  unfolding sendOn message
+  send-refused k bytes m = go (lawful ws) (ltb (length out) (length message)) refl m
+    where
+      go : (sound short : Bool) → ltb (length out) (length message) ≡ short → Meets (sent sound short) (Refused k) bytes
+          → (bytes ≡ out) × (((k ≡ 12) × (length out < length (done sound .says))) ⊎ ((k ≡ 11) × (done sound .says ≡ bytesFor (refusal 11))))
+      go true true e q = let a = q .answers in (q .leaves, inl (cc, ltb-true (length out) (length message) e))
+      go true false e q = let a = q .answers in let z : _≡_ {A = ℕ} 0 1 = cc in absurd (omega arith)
+      go false short e q = let a = q .answers in (q .leaves, inr (cc, refl))
+
+  module _ (k : ℕ) (bytes : List ℕ) (w : Written) (e : w ≡ Refused k) (m : Meets (sendOn ws out) w bytes) where
+    refused : (bytes ≡ out) × (((k ≡ 12) × (length out < length (sendSays ws))) ⊎ ((k ≡ 11) × (sendSays ws ≡ bytesFor (refusal 11))))
+    refused = send-refused k bytes (subst (λ (x : Written). Meets (sendOn ws out) x bytes) e m)
+
+    not-done : length out < length (sendSays ws) → Answers (answerBy (sendDone ws) ws out) 0 ws bytes
+    not-done h = let a = short (sendDone ws) ws out h in record { gives = a .gives; leaves = a .leaves; writes = refused .0 ∙ a .writes }
+
+    pub send-short : k ≡ 12 → Answers (answerBy (sendDone ws) ws out) 0 ws bytes
+    send-short f = either (refused .1) (λ x. not-done (x .1)) (λ x. absurd (omega (arith, f, x .0)))
+
+    unsound : (k ≡ 12 → ⊥) → (k ≡ 11) × (sendSays ws ≡ bytesFor (refusal 11))
+    unsound n = either (refused .1) (λ x. absurd (n (x .0))) (λ x. x)
+
+    two : length (bytesFor (refusal 11)) ≡ refusalLong
+    two = reply-long (refusal 11) unsound-says
+
+    pub send-no-room : (k ≡ 12 → ⊥) → length bytes < refusalLong → Answers (answerBy (sendDone ws) ws out) 0 ws bytes
+    send-no-room n h = not-done (omega (arith, h, two, ap length (unsound n .1), ap length (refused .0)))
+
+    pub send-ready : (k ≡ 12 → ⊥) → refusalLong ≤ length bytes → T (sayable (refusal k)) × (length (bytesFor (refusal k)) ≤ length bytes)
+    send-ready n h =
+        subst (λ (x : ℕ). T (sayable (refusal x)) × (length (bytesFor (refusal x)) ≤ length bytes)) (sym (unsound n .0))
+        (unsound-says, omega (arith, h, two))
+
+    pub send-owes :
+        (k ≡ 12 → ⊥) → refusalLong ≤ length bytes → (long : ℕ) (after : List ℕ) → long ≡ length (bytesFor (refusal k)) → after ≡ bytesFor (refusal k) ++ drop (length (bytesFor (refusal k))) bytes
+        → Answers (answerBy (sendDone ws) ws out) long ws after
+    send-owes n h long after f g =
+        let same : bytesFor (refusal k) ≡ sendSays ws = ap (λ (x : ℕ). bytesFor (refusal x)) (unsound n .0) ∙ sym (unsound n .1) in
+        let a = front (sendDone ws) ws out (omega (arith, h, two, ap length (unsound n .1), ap length (refused .0))) in
+        record {
+          gives = f ∙ ap length same ∙ a .gives;
+          leaves = a .leaves;
+          writes = g ∙ ap₂ (λ (x y : List ℕ). x ++ drop (length x) y) same (refused .0) ∙ a .writes;
+        }
+
+-- which request the byte of kind tells
+module _ (ws bytes : List ℕ) where
+  pub gossip-done : kindIn bytes ≡ 1 → doneOn ws bytes ≡ doneBy gossipLong (gossipOn ws bytes)
+  unfolding doneOn
+  gossip-done e = rw (e)
+
+  pub tap-done : kindIn bytes ≡ 3 → doneOn ws bytes ≡ doneBy tapLong (tapOn ws bytes)
+  unfolding doneOn
+  tap-done e = rw (e)
+
+  pub question-done : kindIn bytes ≡ 4 → doneOn ws bytes ≡ doneBy questionLong (questionOn ws bytes)
+  unfolding doneOn
+  question-done e = rw (e)
+
+  pub other-done : (kindIn bytes ≡ 1 → ⊥) → (kindIn bytes ≡ 3 → ⊥) → (kindIn bytes ≡ 4 → ⊥) → doneOn ws bytes ≡ otherDone ws bytes
+  unfolding doneOn
+  other-done a b c = rw (ne-eqb (kindIn bytes) 1 a, ne-eqb (kindIn bytes) 3 b, ne-eqb (kindIn bytes) 4 c)
+
+-- opening by bytes
+module _ (ws bytes : List ℕ) where
+  pub opens-long : (length ws ≡ bookLong → ⊥) → Opens (openFrom ws bytes) (opened.Refused 11) ws
+  unfolding openFrom
+  opens-long n = go (readable openKind bytes)
+    where
+      go : (c : Bool)
+          → Opens (cond c (openOn ws (getD (lineOf openKind bytes) 1 0) (getD (lineOf openKind bytes) 2 0)) (record { refused = some (cond (eqb (length ws) bookLong) (refusal 1) (refusal 11)); words = ws }))
+          (opened.Refused 11) ws
+      go true = wrong-length ws (getD (lineOf openKind bytes) 1 0) (getD (lineOf openKind bytes) 2 0) (ne-eqb (length ws) bookLong n)
+      go false = rw (ne-eqb (length ws) bookLong n) (record { answers = refl; leaves = refl })
+
+  pub opens-unread : length ws ≡ bookLong → readable openKind bytes ≡ false → Opens (openFrom ws bytes) (opened.Refused 1) ws
+  unfolding openFrom
+  opens-unread e f = rw (f, eq-eqb (length ws) bookLong e) (record { answers = refl; leaves = refl })
+
+  pub opens-read :
+      (i n : ℕ) → said.Open i n ≡ readAs openKind bytes → (r : opening.Opening) (words : List ℕ) → Opens (openOn ws i n) r words → Opens (openFrom ws bytes) r words
+  unfolding openFrom openKind
+  opens-read i n read r words p =
+      let t = told openKind bytes (said.Open i n) read (λ q. let z : _≡_ {A = ℕ} 0 1 = cc in omega arith) in
+      let line = lineOf openKind bytes in
+      let q = t .1 in
+      let first : i ≡ getD line 1 0 = cc in
+      let second : n ≡ getD line 2 0 = cc in
+      rw (t .0) (subst (λ (x : ℕ). Opens (openOn ws x (getD line 2 0)) r words) first (subst (λ (x : ℕ). Opens (openOn ws i x) r words) second p))

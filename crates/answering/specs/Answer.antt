@@ -1,0 +1,100 @@
+-- One whole message answered on a lent slice of words, into a lent output. Assumes nothing.
+use Prim.Native.Nat.{ℕ}
+use mathlib.Core.Path.{_≡_}
+use mathlib.Core.Bool.{cond}
+use mathlib.Core.List.{List, _++_}
+use mathlib.Core.Option.{some}
+use lib.Dec.{eqb, ltb}
+use lib.ListN.{length, getD, drop}
+use Rattle.wire.specs.Kinds.{openKind, sendKind}
+use Rattle.wire.specs.Read.{lineOf, readable}
+use Rattle.wire.specs.declared.Written.{Written}
+use Rattle.wire.specs.declared.Written.the-variants.{Wrote, Refused}
+use Rattle.gossip.specs.Message.{bytesOf}
+use Rattle.meaning.specs.Reply.{refusal}
+use Rattle.meaning.specs.Step.{send}
+use Rattle.layout.specs.Words.{bookLong, bookOf, lawful}
+use Rattle.answers.specs.Lent.{Lent, onBook, tapOn, questionOn, gossipOn, Opened, openOn}
+use Rattle.speech.specs.Speech.{bytesFor, tapLong, questionLong, gossipLong}
+
+-- what a message comes to: the bytes of its reply and the words that are left; and the room that it asks for before anything is done
+pub record Done : Type 0 where
+  pub room : ℕ
+  pub says : List ℕ
+  pub words : List ℕ
+
+abbrev pub doneBy : ℕ → Lent → Done
+doneBy room o = record { room = room; says = bytesFor (o .reply); words = o .words }
+
+-- send says its gossip message, or refusal 11, and asks for just that room
+abbrev pub sendSays : List ℕ → List ℕ
+sendSays ws = cond (lawful ws) (bytesOf (send (bookOf ws))) (bytesFor (refusal 11))
+
+abbrev pub sendDone : List ℕ → Done
+sendDone ws = record { room = length (sendSays ws); says = sendSays ws; words = ws }
+
+-- bytes that are no request: 11, then 1
+abbrev pub badOn : List ℕ → Lent
+badOn ws = onBook ws (record { reply = refusal 1; book = bookOf ws })
+
+abbrev pub refusalLong : ℕ
+refusalLong = 2
+
+abbrev pub otherDone : List ℕ → List ℕ → Done
+otherDone ws bytes = cond (readable sendKind bytes) (sendDone ws) (doneBy refusalLong (badOn ws))
+
+-- the byte of kind; no bytes have kind 0, which is no request's
+abbrev pub kindIn : List ℕ → ℕ
+kindIn bytes = getD bytes 0 0
+
+-- kind 1 is gossip, 3 a tap, 4 a question, 12 send
+unfoldable pub doneOn : List ℕ → List ℕ → Done
+doneOn ws bytes =
+    cond (eqb (kindIn bytes) 1) (doneBy gossipLong (gossipOn ws bytes))
+    (cond (eqb (kindIn bytes) 3) (doneBy tapLong (tapOn ws bytes))
+    (cond (eqb (kindIn bytes) 4) (doneBy questionLong (questionOn ws bytes))
+    (otherDone ws bytes)))
+
+-- how long the reply is (0: refused with 12), the words and the output
+pub record Answered : Type 0 where
+  pub long : ℕ
+  pub words : List ℕ
+  pub bytes : List ℕ
+
+-- 12 where the output is too short, and then nothing changes; else the reply at the output's front, the rest of which stays
+unfoldable pub answerBy : Done → List ℕ → List ℕ → Answered
+answerBy d ws out =
+    cond (ltb (length out) (d .room)) (record { long = 0; words = ws; bytes = out })
+    (record { long = length (d .says); words = d .words; bytes = d .says ++ drop (length (d .says)) out })
+
+abbrev pub answerOn : List ℕ → List ℕ → List ℕ → Answered
+answerOn ws bytes out = answerBy (doneOn ws bytes) ws out
+
+-- what answering gives, leaves and writes is just this
+pub record Answers (o : Answered) (long : ℕ) (words bytes : List ℕ) : Type 0 where
+  pub gives : long ≡ o .long
+  pub leaves : words ≡ o .words
+  pub writes : bytes ≡ o .bytes
+
+-- the room that is always enough for the reply, by the byte of kind
+abbrev pub longest : ℕ
+longest = 12_069
+
+unfoldable pub roomFor : List ℕ → ℕ
+roomFor bytes =
+    cond (eqb (kindIn bytes) 1) gossipLong
+    (cond (eqb (kindIn bytes) 3) tapLong
+    (cond (eqb (kindIn bytes) 4) questionLong
+    (cond (eqb (kindIn bytes) 12) longest refusalLong)))
+
+-- the bytes of kind 11 open a book: 11 by the length only, then 1, then 2; else the fresh book
+unfoldable pub openFrom : List ℕ → List ℕ → Opened
+openFrom ws bytes =
+    let line = lineOf openKind bytes in
+    cond (readable openKind bytes) (openOn ws (getD line 1 0) (getD line 2 0))
+    (record { refused = some (cond (eqb (length ws) bookLong) (refusal 1) (refusal 11)); words = ws })
+
+-- how many bytes were written: none where the writer refused
+abbrev pub longIn : Written → ℕ
+longIn (Wrote n) = n
+longIn (Refused k) = 0

@@ -1,0 +1,125 @@
+-- Laws of answering. Assumes nothing.
+--     short, front          what answering owes where the output is too short, and where it is not
+--     within                a reply is never empty and is within the room asked for, and that is within the room told beforehand
+--     answered, unanswered  with that room every message is answered; a message that is not answered changed nothing
+use Prim.Native.Nat.{ℕ, _+_, _*_, _≤_, _<_}
+use native.Mathlib.Omega.{arith}
+use mathlib.Core.Path.{_≡_, refl, sym, subst, _∙_}
+use mathlib.Core.Bool.{Bool, true, false, _&&_, cond}
+use mathlib.Core.List.{List, _++_}
+use borrow.Author.Tests.{ltb-true, ltb-false, lt-ltb, le-ltb}
+use lib.Dec.{T, eqb, ltb}
+use lib.ListN.{length, drop}
+use Rattle.lists.specs.Facts.{is-true, and-l}
+use Rattle.ledger.specs.Limits.{logRoom}
+use Rattle.wire.specs.Kinds.{refusalKind, sendKind, inTable, bodyOf, isLong, shaped}
+use Rattle.wire.specs.Read.{readable}
+use Rattle.wire.specs.Write.{writable}
+use Rattle.gossip.specs.Message.{bytesOf, headLong, recordLong}
+use Rattle.gossip.specs.MessageLaws.{length-bytes-of}
+use Rattle.meaning.specs.BookLaws.{send-fits}
+use Rattle.meaning.specs.Reply.{Reply, taken, already, verdict, wait, refusal, gossiped, figures}
+use Rattle.meaning.specs.Step.{send}
+use Rattle.layout.specs.SoundWords.{lawful-sound}
+use Rattle.layout.specs.Words.{bookOf, wordsOf, lawful}
+use Rattle.answers.specs.Lent.{Lent, tapOn, questionOn, gossipOn}
+use Rattle.speech.specs.Speech.{bytesFor, sayable, longOf, tapLong, questionLong, gossipLong}
+use Rattle.speech.specs.SpeechLaws.{reply-long, tap-says, tap-long, question-says, question-long, gossip-says, gossip-long}
+use Rattle.answering.specs.Answer.{Done, doneBy, sendDone, badOn, refusalLong, kindIn, doneOn, answerBy, answerOn, Answers, longest, roomFor}
+
+pub short : (d : Done) (ws out : List ℕ) → length out < d .room → Answers (answerBy d ws out) 0 ws out
+unfolding answerBy
+short d ws out h = rw (lt-ltb (length out) (d .room) h) (record { gives = refl; leaves = refl; writes = refl })
+
+pub front :
+    (d : Done) (ws out : List ℕ) → d .room ≤ length out
+    → Answers (answerBy d ws out) (length (d .says)) (d .words) (d .says ++ drop (length (d .says)) out)
+unfolding answerBy
+front d ws out h = rw (le-ltb (length out) (d .room) h) (record { gives = refl; leaves = refl; writes = refl })
+
+-- bytes that are no request get refusal 1 or 11
+bad-cases : (P : Reply → Type 0) (ws : List ℕ) → P (refusal 1) → P (refusal 11) → P (badOn ws .reply)
+bad-cases P ws one eleven = go (lawful ws)
+  where
+    go : (c : Bool) → P (cond {A = Lent} c (record { reply = refusal 1; words = wordsOf (bookOf ws) }) (record { reply = refusal 11; words = ws }) .reply)
+    go true = one
+    go false = eleven
+
+pub unsound-says : T (sayable (refusal 11))
+unfolding writable figures refusalKind inTable
+unsound-says = tt
+
+pub bad-says : (ws : List ℕ) → T (sayable (badOn ws .reply))
+unfolding writable figures refusalKind inTable
+bad-says ws = bad-cases (λ r. T (sayable r)) ws tt tt
+
+pub bad-long : (ws : List ℕ) → length (bytesFor (badOn ws .reply)) ≤ refusalLong
+bad-long ws = omega (arith, reply-long (badOn ws .reply) (bad-says ws), bad-cases (λ r. longOf r ≤ 2) ws (omega arith) (omega arith))
+
+-- what is said is not empty, and within the room asked for; and that is within n
+pub record Within (n : ℕ) (d : Done) : Type 0 where
+  pub some : 1 ≤ length (d .says)
+  pub fits : length (d .says) ≤ d .room
+  pub room : d .room ≤ n
+
+reply-some : (r : Reply) → 2 ≤ longOf r
+reply-some (taken s) = omega arith
+reply-some (already s) = omega arith
+reply-some (verdict v h a d s) = omega arith
+reply-some (wait bits) = omega arith
+reply-some (refusal k) = omega arith
+reply-some (gossiped new applied) = omega arith
+
+reply-within : (n : ℕ) (o : Lent) → T (sayable (o .reply)) → length (bytesFor (o .reply)) ≤ n → Within n (doneBy n o)
+reply-within n o t h = record { some = omega (arith, reply-some (o .reply), reply-long (o .reply) t); fits = h; room = omega arith }
+
+sent-long : (ws : List ℕ) → T (lawful ws) → (1 ≤ length (bytesOf (send (bookOf ws)))) × (length (bytesOf (send (bookOf ws))) ≤ longest)
+unfolding send logRoom
+sent-long ws t =
+    let s = lawful-sound ws t in
+    let e : length (bytesOf (send (bookOf ws))) ≡ headLong + length (bookOf ws .log) * recordLong = length-bytes-of (send (bookOf ws)) (send-fits (bookOf ws) s) in
+    (omega (arith, e), omega (arith, e, s .log-room))
+
+send-within : (ws : List ℕ) → Within longest (sendDone ws)
+send-within ws = go (lawful ws) refl
+  where
+    go : (c : Bool) → lawful ws ≡ c
+        → let says = cond c (bytesOf (send (bookOf ws))) (bytesFor (refusal 11)) in Within longest (record { room = length says; says = says; words = ws })
+    go true e = let l = sent-long ws (subst T (sym e) tt) in record { some = l .0; fits = omega arith; room = l .1 }
+    go false e = let l = reply-long (refusal 11) unsound-says in record { some = omega (arith, l); fits = omega arith; room = omega (arith, l) }
+
+-- send's bytes are of kind 12
+send-kind : (bytes : List ℕ) → readable sendKind bytes ≡ true → eqb (kindIn bytes) 12 ≡ true
+unfolding readable sendKind shaped
+send-kind bytes e =
+    let fits = isLong (bodyOf 12) (length bytes) in
+    is-true (eqb (kindIn bytes) 12) (and-l (eqb (kindIn bytes) 12) fits (and-l (eqb (kindIn bytes) 12 && fits) true (subst T (sym e) tt)))
+
+module _ (ws bytes : List ℕ) where
+  pub within : Within (roomFor bytes) (doneOn ws bytes)
+  unfolding doneOn roomFor
+  within = go (eqb (kindIn bytes) 1) (eqb (kindIn bytes) 3) (eqb (kindIn bytes) 4) (readable sendKind bytes) refl (eqb (kindIn bytes) 12) refl
+    where
+      bad : Within refusalLong (doneBy refusalLong (badOn ws))
+      bad = reply-within refusalLong (badOn ws) (bad-says ws) (bad-long ws)
+
+      go : (gossip tap question send : Bool) → readable sendKind bytes ≡ send → (twelve : Bool) → eqb (kindIn bytes) 12 ≡ twelve
+          → Within (cond gossip gossipLong (cond tap tapLong (cond question questionLong (cond twelve longest refusalLong))))
+          (cond gossip (doneBy gossipLong (gossipOn ws bytes)) (cond tap (doneBy tapLong (tapOn ws bytes)) (cond question (doneBy questionLong (questionOn ws bytes)) (cond send (sendDone ws) (doneBy refusalLong (badOn ws))))))
+      go true tap question send e twelve f = reply-within gossipLong (gossipOn ws bytes) (gossip-says ws bytes) (gossip-long ws bytes)
+      go false true question send e twelve f = reply-within tapLong (tapOn ws bytes) (tap-says ws bytes) (tap-long ws bytes)
+      go false false true send e twelve f = reply-within questionLong (questionOn ws bytes) (question-says ws bytes) (question-long ws bytes)
+      go false false false true e true f = send-within ws
+      go false false false true e false f = absurd (subst T (sym (send-kind bytes e) ∙ f) tt)
+      go false false false false e true f = record { some = bad .some; fits = bad .fits; room = omega arith }
+      go false false false false e false f = bad
+
+  pub answered : (out : List ℕ) → roomFor bytes ≤ length out → 1 ≤ answerOn ws bytes out .long
+  answered out h = omega (arith, front (doneOn ws bytes) ws out (omega (arith, within .room)) .gives, within .some)
+
+  pub unanswered : (out : List ℕ) → answerOn ws bytes out .long ≡ 0 → (answerOn ws bytes out .words ≡ ws) × (answerOn ws bytes out .bytes ≡ out)
+  unanswered out none = go (ltb (length out) (doneOn ws bytes .room)) refl
+    where
+      go : (c : Bool) → ltb (length out) (doneOn ws bytes .room) ≡ c → (answerOn ws bytes out .words ≡ ws) × (answerOn ws bytes out .bytes ≡ out)
+      go true e = let a = short (doneOn ws bytes) ws out (ltb-true (length out) (doneOn ws bytes .room) e) in (sym (a .leaves), sym (a .writes))
+      go false e = absurd (omega (arith, front (doneOn ws bytes) ws out (ltb-false (length out) (doneOn ws bytes .room) e) .gives, within .some, none))

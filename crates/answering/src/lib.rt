@@ -1,0 +1,192 @@
+// One whole message answered on a lent book, into a lent output; and the bytes that open a book.
+use answers::Reply;
+use book::gossip;
+use book::open;
+use book::question;
+use book::send;
+use book::tap;
+use layout::BOOK;
+use opening::Opening;
+use requests::HEAD_SIZE;
+use requests::RECORD_SIZE;
+use requests::read_open;
+use requests::read_send;
+use soundness::sound;
+use speech::speak;
+use wire::BAD;
+use wire::HEAD;
+use wire::QUESTION;
+use wire::SEND;
+use wire::SHORT;
+use wire::Said;
+use wire::TAP;
+use wire::Written;
+ghost use mathlib.Core.Path.{_≡_};
+ghost use mathlib.Core.List.{_++_};
+ghost use Prim.Native.Nat.{_≤_};
+ghost use lib.Dec.{T};
+ghost use lib.ListN.{length, drop};
+ghost use Rattle.answers.specs.Lent.{tapOn, questionOn, gossipOn};
+ghost use Rattle.answers.specs.Spoken.{spoken};
+ghost use Rattle.opening.specs.Opening.{Opens};
+ghost use Rattle.speech.specs.Speech.{bytesFor, sayable, tapLong, questionLong, gossipLong};
+ghost use Rattle.answering.specs.Answer.{doneBy, sendDone, badOn, refusalLong, otherDone, kindIn, answerBy, answerOn, Answers, roomFor, openFrom, longIn};
+
+// The lent book is unsound or of wrong length.
+const UNSOUND: u64 = 11;
+
+// The longest replies to gossip, a tap, a question and send, and to bytes that are no request.
+const GOSSIP_ROOM: usize = 5;
+
+const TAP_ROOM: usize = 33;
+
+const QUESTION_ROOM: usize = 44;
+
+const SEND_ROOM: usize = HEAD_SIZE + LOG_ROOM * RECORD_SIZE;
+
+const REFUSAL_ROOM: usize = 2;
+
+// Records in a log, and so in a message.
+const LOG_ROOM: usize = 256;
+
+// The byte of kind, 0 where there is none.
+fn kind_of(msg: &[u8]) -> u8
+    ensures { λ r. ⌜ r ≡ kindIn (now (msg .entry)) ⌝ }
+{
+    if msg.len() == 0 {
+        return 0;
+    }
+    msg[0]
+}
+
+fn long_of(wrote: Written) -> usize
+    ensures { λ r. ⌜ r ≡ longIn wrote ⌝ }
+{
+    match wrote {
+        Written::Wrote(n) => n,
+        Written::Refused(_) => 0,
+    }
+}
+
+// A reply at the front of an output that has room for it; how long it is.
+fn put(reply: Reply, out: &mut [u8]) -> usize
+    requires { ⌜ T (sayable (spoken reply)) ⌝ }
+    requires { ⌜ length (bytesFor (spoken reply)) ≤ length (now out) ⌝ }
+    ensures { λ r. ⌜ r ≡ length (bytesFor (spoken reply)) ⌝ }
+    ensures { λ _. ⌜ now (out .exit) ≡ bytesFor (spoken reply) ++ drop (length (bytesFor (spoken reply))) (now (out .entry)) ⌝ }
+{
+    let wrote = speak(reply, out);
+    long_of(wrote)
+}
+
+fn answer_tap(b: &mut [u64], msg: &[u8], out: &mut [u8]) -> usize
+    ensures { λ r. ⌜ Answers (answerBy (doneBy tapLong (tapOn (now (b .entry)) (now (msg .entry)))) (now (b .entry)) (now (out .entry))) r (now (b .exit)) (now (out .exit)) ⌝ }
+{
+    if out.len() < TAP_ROOM {
+        return 0;
+    }
+    let reply = tap(b, msg);
+    put(reply, out)
+}
+
+fn answer_question(b: &[u64], msg: &[u8], out: &mut [u8]) -> usize
+    ensures { λ r. ⌜ Answers (answerBy (doneBy questionLong (questionOn (now (b .entry)) (now (msg .entry)))) (now (b .entry)) (now (out .entry))) r (now (b .entry)) (now (out .exit)) ⌝ }
+{
+    if out.len() < QUESTION_ROOM {
+        return 0;
+    }
+    let reply = question(b, msg);
+    put(reply, out)
+}
+
+fn answer_gossip(b: &mut [u64], msg: &[u8], out: &mut [u8]) -> usize
+    ensures { λ r. ⌜ Answers (answerBy (doneBy gossipLong (gossipOn (now (b .entry)) (now (msg .entry)))) (now (b .entry)) (now (out .entry))) r (now (b .exit)) (now (out .exit)) ⌝ }
+{
+    if out.len() < GOSSIP_ROOM {
+        return 0;
+    }
+    let reply = gossip(b, msg);
+    put(reply, out)
+}
+
+fn answer_send(b: &[u64], out: &mut [u8]) -> usize
+    ensures { λ r. ⌜ Answers (answerBy (sendDone (now (b .entry))) (now (b .entry)) (now (out .entry))) r (now (b .entry)) (now (out .exit)) ⌝ }
+{
+    let wrote = send(b, out);
+    match wrote {
+        Written::Wrote(n) => n,
+        Written::Refused(number) => {
+            if number == SHORT {
+                return 0;
+            }
+            if out.len() < REFUSAL_ROOM {
+                return 0;
+            }
+            put(Reply::Refused(number), out)
+        }
+    }
+}
+
+fn answer_bad(b: &[u64], out: &mut [u8]) -> usize
+    ensures { λ r. ⌜ Answers (answerBy (doneBy refusalLong (badOn (now (b .entry)))) (now (b .entry)) (now (out .entry))) r (now (b .entry)) (now (out .exit)) ⌝ }
+{
+    if out.len() < REFUSAL_ROOM {
+        return 0;
+    }
+    if !sound(b) {
+        return put(Reply::Refused(UNSOUND), out);
+    }
+    put(Reply::Refused(BAD), out)
+}
+
+// Send, or bytes that are no request.
+fn answer_other(b: &[u64], msg: &[u8], out: &mut [u8]) -> usize
+    ensures { λ r. ⌜ Answers (answerBy (otherDone (now (b .entry)) (now (msg .entry))) (now (b .entry)) (now (out .entry))) r (now (b .entry)) (now (out .exit)) ⌝ }
+{
+    let said = read_send(msg);
+    let Said::Send = said else {
+        return answer_bad(b, out);
+    };
+    answer_send(b, out)
+}
+
+// The reply to one whole message of kind 1, 3, 4 or 12 at the front of out, and how long it is; 0 where out is too short for it.
+pub fn answer(b: &mut [u64], msg: &[u8], out: &mut [u8]) -> usize
+    ensures { λ r. ⌜ Answers (answerOn (now (b .entry)) (now (msg .entry)) (now (out .entry))) r (now (b .exit)) (now (out .exit)) ⌝ }
+{
+    let kind = kind_of(msg);
+    match kind {
+        HEAD => answer_gossip(b, msg, out),
+        TAP => answer_tap(b, msg, out),
+        QUESTION => answer_question(b, msg, out),
+        _ => answer_other(b, msg, out),
+    }
+}
+
+// How long the reply to a request is at most, by its byte of kind.
+pub fn reply_room(msg: &[u8]) -> usize
+    ensures { λ r. ⌜ r ≡ roomFor (now (msg .entry)) ⌝ }
+{
+    let kind = kind_of(msg);
+    match kind {
+        HEAD => GOSSIP_ROOM,
+        TAP => TAP_ROOM,
+        QUESTION => QUESTION_ROOM,
+        SEND => SEND_ROOM,
+        _ => REFUSAL_ROOM,
+    }
+}
+
+// Kind 11's bytes open the lent book.
+pub fn open_from(b: &mut [u64], msg: &[u8]) -> Opening
+    ensures { λ r. ⌜ Opens (openFrom (now (b .entry)) (now (msg .entry))) r (now (b .exit)) ⌝ }
+{
+    if b.len() != BOOK {
+        return Opening::Refused(UNSOUND);
+    }
+    let said = read_open(msg);
+    let Said::Open { screen, screens } = said else {
+        return Opening::Refused(BAD);
+    };
+    open(b, screen, screens)
+}
