@@ -1,0 +1,52 @@
+-- Laws: an opening as a number says what the opening says. Assumes nothing.
+use Prim.Native.Nat.{ℕ}
+use native.Mathlib.Omega.{arith}
+use mathlib.Core.Path.{_≡_, refl, sym, ap, subst, _∙_}
+use mathlib.Core.Bool.{Bool, true, false, not, cond}
+use mathlib.Core.List.{List}
+use mathlib.Core.Option.{Option, none, some}
+use borrow.Author.Tests.{not-true}
+use lib.Dec.{T, eqb}
+use lib.ListN.{length}
+use Rattle.lists.specs.Facts.{is-true}
+use Rattle.lists.specs.MoreFacts.{first-passes}
+use Rattle.lists.specs.Tests.{firstOf}
+use Rattle.meaning.specs.Book.{fresh}
+use Rattle.meaning.specs.Reply.{Reply, taken, already, verdict, wait, refusal, gossiped}
+use Rattle.meaning.specs.Step.{openStops}
+use Rattle.layout.specs.Words.{bookLong, wordsOf}
+use Rattle.answers.specs.Lent.{openOr, openOn}
+use Rattle.opening.specs.Opening.{Opens}
+use Rattle.opening.specs.declared.Opening as code
+use Rattle.opening.specs.declared.Opening.the-variants as says
+use Rattle.consent.specs.Numbered.{OpensAs}
+
+-- a refusal with a number of its own
+abbrev numbered : Reply → Bool
+numbered (taken s) = true
+numbered (already s) = true
+numbered (verdict v h a d s) = true
+numbered (wait bits) = true
+numbered (refusal k) = not (eqb k 0)
+numbered (gossiped new applied) = true
+
+module _ (ws : List ℕ) (i n : ℕ) where
+  open-numbered : (r : Reply) → (openOn ws i n) .refused ≡ some r → T (numbered r)
+  unfolding openOn openStops
+  open-numbered r = go (firstOf stops) refl
+    where
+      stops : List (Bool × Reply)
+      stops = openStops (eqb (length ws) bookLong) i n
+
+      go : (o : Option Reply) → firstOf stops ≡ o → (openOr ws (wordsOf (fresh i n)) o) .refused ≡ some r → T (numbered r)
+      go none e f = let z : _≡_ {A = ℕ} 0 1 = cc in absurd (omega arith)
+      go (some q) e f = let z : q ≡ r = cc in subst (λ (x : Reply). T (numbered x)) z (first-passes numbered stops tt q e)
+
+  pub opened-as : (r : code.Opening) (words : List ℕ) → r ≡ says.Opened → Opens (openOn ws i n) r words → OpensAs (openOn ws i n) 0 words
+  opened-as r words e p = let q = subst (λ (x : code.Opening). Opens (openOn ws i n) x words) e p in record { answers = q .answers; leaves = q .leaves }
+
+  pub refused-as : (r : code.Opening) (k : ℕ) (words : List ℕ) → r ≡ says.Refused k → Opens (openOn ws i n) r words → OpensAs (openOn ws i n) k words
+  refused-as r k words e p =
+      let q = subst (λ (x : code.Opening). Opens (openOn ws i n) x words) e p in
+      let z : eqb k 0 ≡ false = not-true (eqb k 0) (is-true (not (eqb k 0)) (open-numbered (refusal k) (sym (q .answers)))) in
+      record { answers = ap (λ (c : Bool). cond {A = Option Reply} c none (some (refusal k))) z ∙ q .answers; leaves = q .leaves }
