@@ -1,26 +1,16 @@
 // A screen as a program: standard input holds one kind 11, then kinds 1, 3, 4 and 12; the replies go to standard output.
+use answering::answer;
+use answering::open_from;
 use answers::Reply;
-use book::gossip;
-use book::open;
-use book::question;
-use book::send;
-use book::tap;
 use frames::Frame;
 use frames::frame_of;
 use layout::BOOK;
 use libc::STDIN_FILENO;
 use libc::STDOUT_FILENO;
 use opening::Opening;
-use requests::read_open;
 use speech::speak;
 use wire::BAD;
-use wire::HEAD;
-use wire::QUESTION;
-use wire::Said;
-use wire::TAP;
 use wire::Written;
-ghost use Prim.Native.Nat.{_≤_};
-ghost use lib.ListN.{length};
 
 // The longest message: a head and 256 records.
 const LONGEST: usize = 12069;
@@ -32,22 +22,20 @@ enum Next {
     Broken,
 }
 
-// Writes what stands at the front of out; false if it cannot.
-fn write_front(wrote: Written, out: &[u8]) -> bool {
-    match wrote {
-        Written::Wrote(n) => {
-            if out.len() < n {
-                return false;
-            }
-            io::write_all(STDOUT_FILENO, &out[0..n])
-        }
-        Written::Refused(_) => false,
+// Writes the n bytes at the front of out; false if it cannot.
+fn write_front(n: usize, out: &[u8]) -> bool {
+    if out.len() < n {
+        return false;
     }
+    io::write_all(STDOUT_FILENO, &out[0..n])
 }
 
-fn say(reply: Reply, out: &mut [u8]) -> bool {
-    let wrote = speak(reply, out);
-    write_front(wrote, out)
+fn write_refusal(number: u64, out: &mut [u8]) -> bool {
+    let wrote = speak(Reply::Refused(number), out);
+    let Written::Wrote(n) = wrote else {
+        return false;
+    };
+    write_front(n, out)
 }
 
 // Reads up to n bytes in all behind the `have` that are there; how many there are then.
@@ -103,32 +91,6 @@ fn receive(msg: &mut [u8], opened: bool) -> Next {
     Next::Broken
 }
 
-// The reply to one whole message.
-fn reply_to(book: &mut [u64], msg: &[u8], out: &mut [u8]) -> bool {
-    if msg.len() == 0 {
-        return false;
-    }
-    let kind = msg[0];
-    match kind {
-        TAP => {
-            let r = tap(book, msg);
-            say(r, out)
-        }
-        QUESTION => {
-            let r = question(book, msg);
-            say(r, out)
-        }
-        HEAD => {
-            let r = gossip(book, msg);
-            say(r, out)
-        }
-        _ => {
-            let wrote = send(book, out);
-            write_front(wrote, out)
-        }
-    }
-}
-
 // One message and its reply; false when the program is to stop.
 fn turn(book: &mut [u64], msg: &mut [u8], out: &mut [u8]) -> bool {
     let next = receive(msg, true);
@@ -137,11 +99,12 @@ fn turn(book: &mut [u64], msg: &mut [u8], out: &mut [u8]) -> bool {
             if msg.len() < n {
                 return false;
             }
-            reply_to(book, &msg[0..n], out)
+            let long = answer(book, &msg[0..n], out);
+            write_front(long, out)
         }
         Next::End => false,
         Next::Broken => {
-            say(Reply::Refused(BAD), out);
+            write_refusal(BAD, out);
             false
         }
     }
@@ -151,22 +114,17 @@ fn turn(book: &mut [u64], msg: &mut [u8], out: &mut [u8]) -> bool {
 fn begin(book: &mut [u64], msg: &mut [u8], out: &mut [u8]) -> bool {
     let next = receive(msg, false);
     let Next::Message(n) = next else {
-        say(Reply::Refused(BAD), out);
+        write_refusal(BAD, out);
         return false;
     };
     if msg.len() < n {
         return false;
     }
-    let said = read_open(&msg[0..n]);
-    let Said::Open { screen, screens } = said else {
-        say(Reply::Refused(BAD), out);
-        return false;
-    };
-    let opening = open(book, screen, screens);
+    let opening = open_from(book, &msg[0..n]);
     let Opening::Refused(number) = opening else {
         return true;
     };
-    say(Reply::Refused(number), out);
+    write_refusal(number, out);
     false
 }
 
