@@ -20,7 +20,7 @@ use Rattle.gossip.specs.Message.{bytesOf}
 use Rattle.meaning.specs.Reply.{Reply, refusal}
 use Rattle.meaning.specs.Step.{send}
 use Rattle.layout.specs.Words.{bookLong, bookOf, lawful}
-use Rattle.answers.specs.Lent.{Lent, Promise, tapOn, questionOn, gossipOn, sendOn, openOn}
+use Rattle.answers.specs.Lent.{Lent, Promise, sendOn, openOn}
 use Rattle.answers.specs.Spoken.{spoken}
 use Rattle.answers.specs.declared.Reply as answer
 use Rattle.answers.specs.declared.Reply.the-variants as says
@@ -29,9 +29,9 @@ use Rattle.opening.specs.OpeningLaws.{wrong-length}
 use Rattle.opening.specs.declared.Opening as opening
 use Rattle.opening.specs.declared.Opening.the-variants as opened
 use Rattle.book.specs.Heard.{owes-unsound, owes-unread, told}
-use Rattle.speech.specs.Speech.{bytesFor, sayable, sayOn, tapLong, questionLong, gossipLong}
+use Rattle.speech.specs.Speech.{bytesFor, sayable, sayOn}
 use Rattle.speech.specs.SpeechLaws.{says-front, reply-long}
-use Rattle.answering.specs.Answer.{Done, doneBy, sendSays, sendDone, badOn, refusalLong, otherDone, kindIn, doneOn, answerBy, Answers, openFrom, longIn}
+use Rattle.answering.specs.Answer.{Done, doneBy, sendSays, sendDone, badOn, refusalLong, kindIn, answerBy, Answers, openFrom, longIn}
 use Rattle.answering.specs.AnswerLaws.{short, front, unsound-says}
 
 -- no bytes have kind 0
@@ -143,24 +143,6 @@ module _ (ws out : List ℕ) where
           leaves = a .leaves;
           writes = g ∙ ap₂ (λ (x y : List ℕ). x ++ drop (length x) y) same (refused .0) ∙ a .writes;
         }
-
--- which request the byte of kind tells
-module _ (ws bytes : List ℕ) where
-  pub gossip-done : kindIn bytes ≡ 1 → doneOn ws bytes ≡ doneBy gossipLong (gossipOn ws bytes)
-  unfolding doneOn
-  gossip-done e = rw (e)
-
-  pub tap-done : kindIn bytes ≡ 3 → doneOn ws bytes ≡ doneBy tapLong (tapOn ws bytes)
-  unfolding doneOn
-  tap-done e = rw (e)
-
-  pub question-done : kindIn bytes ≡ 4 → doneOn ws bytes ≡ doneBy questionLong (questionOn ws bytes)
-  unfolding doneOn
-  question-done e = rw (e)
-
-  pub other-done : (kindIn bytes ≡ 1 → ⊥) → (kindIn bytes ≡ 3 → ⊥) → (kindIn bytes ≡ 4 → ⊥) → doneOn ws bytes ≡ otherDone ws bytes
-  unfolding doneOn
-  other-done a b c = rw (ne-eqb (kindIn bytes) 1 a, ne-eqb (kindIn bytes) 3 b, ne-eqb (kindIn bytes) 4 c)
 
 -- opening by bytes
 module _ (ws bytes : List ℕ) where

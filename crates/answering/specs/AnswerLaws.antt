@@ -1,5 +1,6 @@
 -- Laws of answering. Assumes nothing.
 --     short, front          what answering owes where the output is too short, and where it is not
+--     gossip-done ..        which request the byte of kind tells
 --     within                a reply is never empty and is within the room asked for, and that is within the room told beforehand
 --     answered, unanswered  with that room every message is answered; a message that is not answered changed nothing
 use Prim.Native.Nat.{ℕ, _+_, _*_, _≤_, _<_}
@@ -7,7 +8,7 @@ use native.Mathlib.Omega.{arith}
 use mathlib.Core.Path.{_≡_, refl, sym, subst, _∙_}
 use mathlib.Core.Bool.{Bool, true, false, _&&_, cond}
 use mathlib.Core.List.{List, _++_}
-use borrow.Author.Tests.{ltb-true, ltb-false, lt-ltb, le-ltb}
+use borrow.Author.Tests.{ltb-true, ltb-false, lt-ltb, le-ltb, ne-eqb}
 use lib.Dec.{T, eqb, ltb}
 use lib.ListN.{length, drop}
 use Rattle.lists.specs.Facts.{is-true, and-l}
@@ -25,7 +26,7 @@ use Rattle.layout.specs.Words.{bookOf, wordsOf, lawful}
 use Rattle.answers.specs.Lent.{Lent, tapOn, questionOn, gossipOn}
 use Rattle.speech.specs.Speech.{bytesFor, sayable, longOf, tapLong, questionLong, gossipLong}
 use Rattle.speech.specs.SpeechLaws.{reply-long, tap-says, tap-long, question-says, question-long, gossip-says, gossip-long}
-use Rattle.answering.specs.Answer.{Done, doneBy, sendDone, badOn, refusalLong, kindIn, doneOn, answerBy, answerOn, Answers, longest, roomFor}
+use Rattle.answering.specs.Answer.{Done, doneBy, sendDone, badOn, refusalLong, otherDone, kindIn, doneOn, answerBy, answerOn, Answers, longest, roomFor}
 
 pub short : (d : Done) (ws out : List ℕ) → length out < d .room → Answers (answerBy d ws out) 0 ws out
 unfolding answerBy
@@ -36,6 +37,24 @@ pub front :
     → Answers (answerBy d ws out) (length (d .says)) (d .words) (d .says ++ drop (length (d .says)) out)
 unfolding answerBy
 front d ws out h = rw (le-ltb (length out) (d .room) h) (record { gives = refl; leaves = refl; writes = refl })
+
+-- which request the byte of kind tells
+module _ (ws bytes : List ℕ) where
+  pub gossip-done : kindIn bytes ≡ 1 → doneOn ws bytes ≡ doneBy gossipLong (gossipOn ws bytes)
+  unfolding doneOn
+  gossip-done e = rw (e)
+
+  pub tap-done : kindIn bytes ≡ 3 → doneOn ws bytes ≡ doneBy tapLong (tapOn ws bytes)
+  unfolding doneOn
+  tap-done e = rw (e)
+
+  pub question-done : kindIn bytes ≡ 4 → doneOn ws bytes ≡ doneBy questionLong (questionOn ws bytes)
+  unfolding doneOn
+  question-done e = rw (e)
+
+  pub other-done : (kindIn bytes ≡ 1 → ⊥) → (kindIn bytes ≡ 3 → ⊥) → (kindIn bytes ≡ 4 → ⊥) → doneOn ws bytes ≡ otherDone ws bytes
+  unfolding doneOn
+  other-done a b c = rw (ne-eqb (kindIn bytes) 1 a, ne-eqb (kindIn bytes) 3 b, ne-eqb (kindIn bytes) 4 c)
 
 -- bytes that are no request get refusal 1 or 11
 bad-cases : (P : Reply → Type 0) (ws : List ℕ) → P (refusal 1) → P (refusal 11) → P (badOn ws .reply)

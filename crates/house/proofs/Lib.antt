@@ -6,3 +6,4 @@ pub mod Demand
 pub mod Consent
 pub mod Agree
 pub mod LentRuns
+pub mod HostRuns

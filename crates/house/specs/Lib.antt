@@ -3,3 +3,4 @@ pub mod Demand
 pub mod Consent
 pub mod Agree
 pub mod LentHouse
+pub mod HostHouse

@@ -1,2 +1,3 @@
 pub mod Speech
 pub mod SpeechLaws
+pub mod KindLaws

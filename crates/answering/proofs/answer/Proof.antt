@@ -1,6 +1,7 @@
 -- `answering::answer` meets its contract. Assumes nothing.
 use mathlib.Core.Path.{sym, _∙_}
-use Rattle.answering.proofs.Owes.{same-done, gossip-done, tap-done, question-done, other-done}
+use Rattle.answering.specs.AnswerLaws.{gossip-done, tap-done, question-done, other-done}
+use Rattle.answering.proofs.Owes.{same-done}
 use borrow.Author.Needs.{needs}
 use Rattle.answering.proofs.answer.Statement.{statement}
 use Rattle.answering.proofs.answer.Tie as tie

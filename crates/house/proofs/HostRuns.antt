@@ -1,0 +1,176 @@
+-- A run of calls of `answer` is a run over lent slices and bytes, so all that is proved of those holds of it. Assumes nothing.
+use Prim.Native.Nat.{ℕ, _≤_, _<_}
+use native.Mathlib.Omega.{arith}
+use mathlib.Core.Path.{_≡_, refl, sym, ap, ap₂, subst, _∙_}
+use mathlib.Core.Logic.{_⊎_, inl, inr}
+use mathlib.Core.Bool.{Bool, true, false, cond}
+use mathlib.Core.List.{List, [], _∷_, _++_}
+use borrow.Author.Tests.{le-ltb, ltb-false, eqb-true, ne-eqb}
+use lib.Dec.{T, eqb, ltb}
+use lib.ListN.{length, getD, take, drop}
+use Rattle.lists.specs.Facts.{_∈_, either}
+use Rattle.ledger.specs.Limits.{fewest, most}
+use Rattle.wire.specs.Kinds.{sendKind}
+use Rattle.wire.specs.Read.{readable}
+use Rattle.wire.specs.Write.{Output, refuse}
+use Rattle.wire.specs.declared.Written.the-variants.{Wrote}
+use Rattle.gossip.specs.Message.{bytesOf}
+use Rattle.meaning.specs.Reply.{refusal, isTaken}
+use Rattle.meaning.specs.Step.{send}
+use Rattle.layout.specs.Words.{bookOf, wordsOf, lawful}
+use Rattle.layout.specs.SoundWords.{lawful-held}
+use Rattle.answers.specs.Lent.{Lent, tapOn, questionOn, gossipOn, putFront, sendOn}
+use Rattle.speech.specs.KindLaws.{first-taken, first-no-head, first-head, question-not-taken, gossip-not-taken}
+use Rattle.speech.specs.Speech.{bytesFor, tapLong, questionLong, gossipLong}
+use Rattle.answering.specs.Answer.{Done, doneBy, sendDone, badOn, refusalLong, kindIn, doneOn, Answered, answerBy}
+use Rattle.answering.specs.AnswerLaws.{within}
+use Rattle.house.specs.House.{put, grown}
+use Rattle.house.specs.HostHouse as host
+use Rattle.house.specs.HostHouse.{kindOf, afterCall, Call, call, HostRun}
+use Rattle.house.specs.LentHouse.{LentHouse, recordFor, lentTap, lentQuestion, lentSend, lentGossip, LentStep, tap, question, sends, arrives, LentRun, opened, onward, LentDemand}
+use Rattle.house.proofs.Invariant.{put-either}
+use Rattle.house.proofs.LentRuns.{lent-demand}
+
+-- words put where they were
+put-back : {A : Type 0} (f : ℕ → A) (i : ℕ) → put f i (f i) ≡ f
+put-back f i = λ j. λ k. either (put-either f i (f i) k) (λ p. p .1 ∙ ap f (sym (p .0))) (λ p. p .1) j
+
+first-said : (says rest : List ℕ) → 1 ≤ length says → cond (eqb (length says) 0) 0 (getD (says ++ rest) 0 0) ≡ getD says 0 0
+first-said [] rest h = absurd (omega arith)
+first-said (x ∷ says) rest h = ap (λ (c : Bool). cond c 0 x) (ne-eqb (length (x ∷ says)) 0 (λ e. omega arith))
+
+module _ (n : ℕ) (h : LentHouse) (i : ℕ) (u : i < n) (bytes out : List ℕ) (from : kindIn bytes ≡ 1 → bytes ∈ h .sent) where
+  ws : List ℕ
+  ws = h .words i
+
+  -- the house after a call that left these words, said these bytes, and was a send's, or took a tap
+  abbrev left : List ℕ → List ℕ → Bool → Bool → LentHouse
+  left words said sent taken =
+      record {
+        words = put (h .words) i words;
+        sent = cond sent (said ∷ h .sent) (h .sent);
+        history = cond taken (recordFor (h .words i) bytes ∷ h .history) (h .history);
+      }
+
+  abbrev after : Answered → LentHouse
+  after a = left (a .words) (take (a .long) (a .bytes)) (eqb (kindOf a) 1) (eqb (kindOf a) 5)
+
+  stays : left ws [] false false ≡ h
+  unfolding ws
+  stays = λ j. record { words = put-back (h .words) i j; sent = h .sent; history = h .history }
+
+  -- what a call comes to where the output is long enough
+  abbrev fronted : Done → Answered
+  fronted d = record { long = length (d .says); words = d .words; bytes = d .says ++ drop (length (d .says)) out }
+
+  by-kind : (d : Done) → 1 ≤ length (d .says) → after (fronted d) ≡ left (d .words) (take (length (d .says)) (d .says ++ drop (length (d .says)) out)) (eqb (getD (d .says) 0 0) 1) (eqb (getD (d .says) 0 0) 5)
+  by-kind d s = ap (λ (k : ℕ). left (d .words) (take (length (d .says)) (d .says ++ drop (length (d .says)) out)) (eqb k 1) (eqb k 5)) (first-said (d .says) (drop (length (d .says)) out) s)
+
+  -- a reply leaves what the operation leaves, sends nothing, and says by its kind whether a tap is taken
+  by-reply : (room : ℕ) (o : Lent) (c : Bool) → isTaken (o .reply) ≡ c → 1 ≤ length (bytesFor (o .reply)) → (said : List ℕ) → after (fronted (doneBy room o)) ≡ left (o .words) said false c
+  by-reply room o c e s said =
+      by-kind (doneBy room o) s
+      ∙ ap₂ (λ (x y : Bool). left (o .words) (take (length (bytesFor (o .reply))) (bytesFor (o .reply) ++ drop (length (bytesFor (o .reply))) out)) x y) (first-no-head (o .reply)) (first-taken (o .reply) ∙ e)
+
+  abbrev Goes : LentHouse → Type 0
+  Goes h′ = LentStep n h h′ ⊎ (h ≡ h′)
+
+  by-tap : 1 ≤ length (bytesFor (tapOn ws bytes .reply)) → Goes (after (fronted (doneBy tapLong (tapOn ws bytes))))
+  unfolding ws lentTap grown
+  by-tap s = subst Goes (sym (by-reply tapLong (tapOn ws bytes) (isTaken (tapOn ws bytes .reply)) refl s [])) (inl (tap i u bytes))
+
+  by-question : 1 ≤ length (bytesFor (questionOn ws bytes .reply)) → Goes (after (fronted (doneBy questionLong (questionOn ws bytes))))
+  unfolding ws lentQuestion
+  by-question s = subst Goes (sym (by-reply questionLong (questionOn ws bytes) false (question-not-taken ws bytes) s [])) (inl (question i u bytes))
+
+  by-gossip : kindIn bytes ≡ 1 → 1 ≤ length (bytesFor (gossipOn ws bytes .reply)) → Goes (after (fronted (doneBy gossipLong (gossipOn ws bytes))))
+  unfolding ws lentGossip
+  by-gossip e s = subst Goes (sym (by-reply gossipLong (gossipOn ws bytes) false (gossip-not-taken ws bytes) s [])) (inl (arrives i u bytes (from e)))
+
+  -- a refusal leaves the house as it was
+  by-refusal : (room k : ℕ) → 1 ≤ length (bytesFor (refusal k)) → (words : List ℕ) → words ≡ ws → Goes (after (fronted (doneBy room (record { reply = refusal k; words = words }))))
+  by-refusal room k s words e =
+      let o : Lent = record { reply = refusal k; words = words } in
+      inr (sym (by-reply room o false refl s [] ∙ ap (λ (w : List ℕ). left w [] false false) e ∙ stays))
+
+  by-bad : 1 ≤ length (bytesFor (badOn ws .reply)) → Goes (after (fronted (doneBy refusalLong (badOn ws))))
+  by-bad = go (lawful ws) refl
+    where
+      bad : Bool → Lent
+      bad c = cond c (record { reply = refusal 1; words = wordsOf (bookOf ws) }) (record { reply = refusal 11; words = ws })
+
+      go : (c : Bool) → lawful ws ≡ c → 1 ≤ length (bytesFor ((bad c) .reply)) → Goes (after (fronted (doneBy refusalLong (bad c))))
+      go true e s = by-refusal refusalLong 1 s (wordsOf (bookOf ws)) (lawful-held ws (subst T (sym e) tt) .words)
+      go false e s = by-refusal refusalLong 11 s ws refl
+
+  -- a message that was sent stands at the output's front
+  message : List ℕ
+  message = bytesOf (send (bookOf ws))
+
+  abbrev asSent : Output
+  asSent = record { answer = Wrote (length message); bytes = message ++ drop (length message) out }
+
+  sends-so : lawful ws ≡ true → length message ≤ length out → sendOn ws out ≡ asSent
+  unfolding sendOn message
+  sends-so e l =
+      ap (λ (c : Bool). cond c (putFront message out) (refuse 11 out)) e ∙ ap (λ (c : Bool). cond c (refuse 12 out) asSent) (le-ltb (length out) (length message) l)
+
+  by-sent : lawful ws ≡ true → length message ≤ length out → left ws (take (length message) (message ++ drop (length message) out)) true false ≡ lentSend h i out (length message)
+  unfolding ws lentSend
+  by-sent e l =
+      let q : asSent ≡ sendOn ws out = sym (sends-so e l) in
+      λ j. record { words = put-back (h .words) i j; sent = take (length message) (q j .bytes) ∷ h .sent; history = h .history }
+
+  by-send : 1 ≤ length (sendDone ws .says) → length (sendDone ws .says) ≤ length out → Goes (after (fronted (sendDone ws)))
+  unfolding ws message
+  by-send = go (lawful ws) refl
+    where
+      done : Bool → Done
+      done c = let says = cond c message (bytesFor (refusal 11)) in record { room = length says; says = says; words = ws }
+
+      go : (c : Bool) → lawful ws ≡ c → 1 ≤ length ((done c) .says) → length ((done c) .says) ≤ length out → Goes (after (fronted (done c)))
+      go true e s l =
+          let said = take (length message) (message ++ drop (length message) out) in
+          subst Goes (sym (by-kind (done true) s ∙ ap (λ (k : ℕ). left ws said (eqb k 1) (eqb k 5)) (first-head (send (bookOf ws))) ∙ by-sent e l))
+          (inl (sends i u out (length message) (ap (λ (o : Output). o .answer) (sends-so e l))))
+      go false e s l = by-refusal (length (bytesFor (refusal 11))) 11 s ws refl
+
+  by-done : doneOn ws bytes .room ≤ length out → Goes (after (fronted (doneOn ws bytes)))
+  unfolding doneOn
+  by-done room = go (eqb (kindIn bytes) 1) refl (eqb (kindIn bytes) 3) (eqb (kindIn bytes) 4) (readable sendKind bytes) (within ws bytes .some) room
+    where
+      done : Bool → Bool → Bool → Bool → Done
+      done g t q s =
+          cond g (doneBy gossipLong (gossipOn ws bytes)) (cond t (doneBy tapLong (tapOn ws bytes)) (cond q (doneBy questionLong (questionOn ws bytes)) (cond s (sendDone ws) (doneBy refusalLong (badOn ws)))))
+
+      go : (g : Bool) → eqb (kindIn bytes) 1 ≡ g → (t q s : Bool) → 1 ≤ length ((done g t q s) .says) → (done g t q s) .room ≤ length out → Goes (after (fronted (done g t q s)))
+      go true e t q s some l = by-gossip (eqb-true (kindIn bytes) 1 e) some
+      go false e true q s some l = by-tap some
+      go false e false true s some l = by-question some
+      go false e false false true some l = by-send some l
+      go false e false false false some l = by-bad some
+
+  -- a call is a step over lent slices and bytes, or leaves the house as it was
+  pub call-goes : Goes (afterCall h i bytes out)
+  unfolding ws afterCall answerBy
+  call-goes = go (ltb (length out) (doneOn ws bytes .room)) refl
+    where
+      answer : Bool → Answered
+      answer c = cond c (record { long = 0; words = ws; bytes = out }) (fronted (doneOn ws bytes))
+
+      go : (c : Bool) → ltb (length out) (doneOn ws bytes .room) ≡ c → Goes (after (answer c))
+      go true e = inr (sym stays)
+      go false e = by-done (ltb-false (length out) (doneOn ws bytes .room) e)
+
+module _ (n : ℕ) where
+  -- a run of calls is a run over lent slices and bytes
+  pub host-run : {h : LentHouse} → HostRun n h → LentRun n h
+  host-run (host.opened lent f) = opened lent f
+  host-run (host.onward r c) = next (host-run r) c
+    where
+      next : {h h′ : LentHouse} → LentRun n h → Call n h h′ → LentRun n h′
+      next {h} r (call i u bytes out from) = either (call-goes n h i u bytes out from) (λ s. onward r s) (λ e. subst (LentRun n) e r)
+
+  -- so at every moment of it the third demand holds, and no refused consent goes live
+  pub host-demand : fewest ≤ n → n ≤ most → {h : LentHouse} → HostRun n h → LentDemand n h
+  host-demand lo hi r = lent-demand n lo hi (host-run r)

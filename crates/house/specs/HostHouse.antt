@@ -1,0 +1,34 @@
+-- The runs of a house that a host drives by `answer` alone: every step is one call, with any bytes and any output. Assumes nothing.
+use Prim.Native.Nat.{ℕ, _<_}
+use mathlib.Core.Path.{_≡_}
+use mathlib.Core.Bool.{cond}
+use mathlib.Core.List.{List, _∷_, List·Memᴰ}
+use lib.Dec.{eqb}
+use lib.ListN.{length, getD, take}
+use Rattle.layout.specs.Words.{bookLong}
+use Rattle.answering.specs.Answer.{kindIn, Answered, answerOn}
+use Rattle.house.specs.House.{put}
+use Rattle.house.specs.LentHouse.{LentHouse, openLent, recordFor}
+
+-- the kind of the reply that a call gave: its first byte, and 0 where it gave none
+abbrev pub kindOf : Answered → ℕ
+kindOf a = cond (eqb (a .long) 0) 0 (getD (a .bytes) 0 0)
+
+-- after a call on screen i: a reply of kind 1 is gossip that the screen has sent, a reply of kind 5 says that the tap is taken
+unfoldable pub afterCall : LentHouse → ℕ → List ℕ → List ℕ → LentHouse
+afterCall h i bytes out =
+    let a = answerOn (h .words i) bytes out in
+    record {
+      words = put (h .words) i (a .words);
+      sent = cond (eqb (kindOf a) 1) (take (a .long) (a .bytes) ∷ h .sent) (h .sent);
+      history = cond (eqb (kindOf a) 5) (recordFor (h .words i) bytes ∷ h .history) (h .history);
+    }
+
+-- One call: any bytes at any screen, and any output. Only gossip, which starts with 1, is handed on as it was sent.
+pub data Call (n : ℕ) : LentHouse → LentHouse → Type 0 where
+  call : {h : LentHouse} (i : ℕ) → i < n → (bytes out : List ℕ) → (kindIn bytes ≡ 1 → List·Memᴰ bytes (h .sent)) → Call n h (afterCall h i bytes out)
+
+-- a run: each screen opened once, with its own number, on any slice of the one length; then any calls
+pub data HostRun (n : ℕ) : LentHouse → Type 0 where
+  opened : (lent : ℕ → List ℕ) → ((i : ℕ) → i < n → length (lent i) ≡ bookLong) → HostRun n (openLent lent n)
+  onward : {h h′ : LentHouse} → HostRun n h → Call n h h′ → HostRun n h′
