@@ -7,15 +7,15 @@ use native.Mathlib.Omega.{arith}
 use mathlib.Core.Path.{_≡_, refl, sym, ap, subst, _∙_}
 use mathlib.Core.Bool.{true, _&&_}
 use mathlib.Core.List.{List, [], _∷_, _++_}
-use lib.Dec.{T, leb, ltb, leb→le, ltb→lt, lt→ltb, eqb→eq}
+use lib.Dec.{T, leb, ltb, leb→le, ltb→lt, lt→ltb}
 use lib.ListN.{length, getD}
-use lib.Seq.{take-all}
 use Rattle.lists.specs.Facts.{and-l, and-r, both, all-at, is-true, every-place}
 use Rattle.lists.specs.Tests.{every}
-use Rattle.stamp.specs.Limits.{parts, word}
+use Rattle.stamp.specs.Laws.{fits-long, fits-words}
+use Rattle.stamp.specs.Limits.{word}
 use Rattle.stamp.specs.Parts.{partsAt, listOf}
-use Rattle.stamp.specs.PartsLaws.{list-parts}
-use Rattle.stamp.specs.Stamp.{Stamp, part, stampRules, stampFits}
+use Rattle.stamp.specs.PartsLaws.{whole-stamp}
+use Rattle.stamp.specs.Stamp.{Stamp, part, stampFits}
 use Rattle.stamp.specs.declared.Parts.{Parts}
 use Rattle.fields.specs.Fields.{fieldsFit}
 use Rattle.tally.specs.Tap.{fields, tapFits, tapOf, bodyFits}
@@ -42,18 +42,11 @@ fit-append (w ∷ ws) us (v ∷ vs) xs t u =
 -- a stamp that keeps its rules is a value of eight parts, each in its width
 module _ (n : ℕ) (s : Stamp) (t : T (stampFits n s)) where
   stamp-list : listOf (partsAt 0 s) ≡ s
-  unfolding stampFits parts
-  stamp-list =
-      let e : length s ≡ 8 = eqb→eq (length s) 8 (all-at (stampRules n s) 0 t) in
-      list-parts 0 s (omega arith) ∙ take-all 8 s (omega arith)
-
-  words : T (every (λ x. ltb x word) s)
-  unfolding stampFits
-  words = all-at (stampRules n s) 1 t
+  stamp-list = whole-stamp s (fits-long n s t)
 
   stamp-widths : T (fieldsFit stampBody s)
   unfolding word listOf
-  stamp-widths = subst (λ (l : Stamp). T (fieldsFit stampBody l)) stamp-list (subst (λ (l : Stamp). T (every (λ x. ltb x word) l)) (sym stamp-list) words)
+  stamp-widths = subst (λ (l : Stamp). T (fieldsFit stampBody l)) stamp-list (subst (λ (l : Stamp). T (every (λ x. ltb x word) l)) (sym stamp-list) (fits-words n s t))
 
 -- what a readable line says is that line
 pub said-line : (k : Kind) → Lawful k → (bytes : List ℕ) → T (readable k bytes) → figures (k .said (lineOf k bytes)) ≡ lineOf k bytes
@@ -109,7 +102,7 @@ module _ (n : ℕ) (r : Record) (t : T (recordFits bodyFits n r)) where
     number-small : r .number < 4294967296
     unfolding isKnown knows word
     number-small =
-        omega (arith, leb→le (r .number) (part m (r .origin)) k, ltb→lt (part m (r .origin)) word (every-place (λ x. ltb x word) m 0 (words n m fit) tt (r .origin)))
+        omega (arith, leb→le (r .number) (part m (r .origin)) k, ltb→lt (part m (r .origin)) word (every-place (λ x. ltb x word) m 0 (fits-words n m fit) tt (r .origin)))
 
     widths-kept : T (fieldsFit (1 ∷ 1 ∷ 4 ∷ stampBody ++ tapBody) (lineFor r))
     unfolding lineFor

@@ -237,17 +237,14 @@ every-place p [] d t u k = u
 every-place p (x ∷ xs) d t u zero = and-l (p x) (every p xs) t
 every-place p (x ∷ xs) d t u (suc k) = every-place p xs d (and-r (p x) (every p xs) t) u k
 
-place-every : {A : Type 0} (p : A → Bool) (xs : List A) (d : A) → ((k : ℕ) → k < length xs → T (p (getD xs k d))) → T (every p xs)
-place-every p [] d f = tt
-place-every p (x ∷ xs) d f = both (p x) (every p xs) (f 0 (omega arith)) (place-every p xs d (λ k h. f (suc k) (omega arith)))
-
 pub every-getD : {A : Type 0} (p : A → Bool) (xs : List A) (d : A) → T (every p xs) → (k : ℕ) → k < length xs → T (p (getD xs k d))
 every-getD p [] d t k h = absurd (omega arith)
 every-getD p (x ∷ xs) d t zero h = and-l (p x) (every p xs) t
 every-getD p (x ∷ xs) d t (suc k) h = every-getD p xs d (and-r (p x) (every p xs) t) k (omega arith)
 
 pub getD-every : {A : Type 0} (p : A → Bool) (xs : List A) (d : A) → ((k : ℕ) → k < length xs → T (p (getD xs k d))) → T (every p xs)
-getD-every p xs d f = place-every p xs d f
+getD-every p [] d f = tt
+getD-every p (x ∷ xs) d f = both (p x) (every p xs) (f 0 (omega arith)) (getD-every p xs d (λ k h. f (suc k) (omega arith)))
 
 -- two tests that pass together are one
 pub same-test : (a b : Bool) → (T a → T b) → (T b → T a) → a ≡ b

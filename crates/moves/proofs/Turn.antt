@@ -7,15 +7,12 @@ use mathlib.Core.Bool.{Bool, true, false, not, _&&_, cond}
 use mathlib.Core.List.{List, []}
 use lib.Dec.{T}
 use lib.ListN.{length, getD, set, take, drop, length-take, length-drop, drop-of-length-le}
-use lib.Seq.{take-all}
 use Rattle.lists.specs.Facts.{_∈_, bit}
 use Rattle.lists.specs.Order.{insert}
 use Rattle.lists.specs.Part.{mid, patch}
 use Rattle.lists.specs.Rows.{rows}
 use Rattle.stamp.specs.Laws.{merge-comm, length-merge, length-replace}
 use Rattle.stamp.specs.Limits.{parts}
-use Rattle.stamp.specs.Parts.{partsAt, listOf}
-use Rattle.stamp.specs.PartsLaws.{list-parts}
 use Rattle.stamp.specs.Stamp.{Stamp, merge}
 use Rattle.tally.specs.Standing.{CountsFit, among, blank, standing}
 use Rattle.tally.specs.StandingLaws.{afresh-at, standing-few}
@@ -122,12 +119,6 @@ unfolding stampOf
 stamp-eight row e l =
     let eight : length (take 8 (drop 2 row)) ≡ 8 = simp (length-take, length-drop) (omega arith) in
     length-replace (take 8 (drop 2 row)) (getD row 0 0) (getD row 1 0) (omega arith) ∙ eight
-
-pub whole-stamp : (s : Stamp) → length s ≡ 8 → listOf (partsAt 0 s) ≡ s
-whole-stamp s e =
-    let l : 0 + 8 ≤ length s = omega arith in
-    let m : length s ≤ 8 = omega arith in
-    list-parts 0 s l ∙ take-all 8 s m
 
 pub table-rows : (ws : List ℕ) → rows 8 (getD ws 1 0) (mid 4 64 ws) ≡ (bookOf ws) .table
 unfolding bookOf parts

@@ -13,7 +13,7 @@ use Rattle.lists.specs.Facts.{and-r, bit, is-true, keep-length}
 use Rattle.lists.specs.Order.{rising}
 use Rattle.lists.specs.Tests.{allBelow, every, keep}
 use Rattle.stamp.specs.Parts.{partsAt, listOf}
-use Rattle.stamp.specs.PartsLaws.{list-parts}
+use Rattle.stamp.specs.PartsLaws.{whole-stamp}
 use Rattle.stamp.specs.Stamp.{Stamp, part}
 use Rattle.stamp.specs.declared.Parts.{Parts}
 use Rattle.tally.specs.Tap.{FitsBits, tapFits, fields, wordOf}
@@ -144,6 +144,4 @@ pub look-whole :
 unfolding inOrder recordsIn
 look-whole bytes w n known m s reached h e f =
     let order = and-r (every (readable (kindIn bytes)) (recordParts bytes)) (rising place (map (held (kindIn bytes)) (recordParts bytes))) (well-order bytes w) in
-    let eight : 0 + 8 ≤ length known = omega (arith, h .0) in
-    let copy : listOf (partsAt 0 known) ≡ known = list-parts 0 known eight ∙ take-all 8 known (omega (arith, h .0)) in
-    rw (e, f, copy) (sym (climb-holds n known m (recordsIn bytes) order (omega (arith, h .0, h .1))))
+    rw (e, f, whole-stamp known (h .0)) (sym (climb-holds n known m (recordsIn bytes) order (omega (arith, h .0, h .1))))

@@ -3,18 +3,17 @@
 --     record-writable   the line of each record
 use Prim.Native.Nat.{ℕ, _≤_, _<_, _^_}
 use native.Mathlib.Omega.{arith}
-use mathlib.Core.Path.{_≡_, sym, subst, _∙_}
+use mathlib.Core.Path.{_≡_, sym, subst}
 use mathlib.Core.Bool.{true, _&&_}
 use mathlib.Core.List.{List, [], _∷_, _++_, append-nil}
 use lib.Dec.{T, leb, ltb, leb→le, lt→ltb}
 use lib.ListN.{length, getD, replicate}
-use lib.Seq.{take-all}
 use Rattle.lists.specs.Facts.{_∈_, all-at, and-l, and-r, both, every-at}
 use Rattle.lists.specs.Tests.{every}
 use Rattle.stamp.specs.Laws.{fits}
 use Rattle.stamp.specs.Limits.{parts, word}
 use Rattle.stamp.specs.Parts.{partsAt, listOf}
-use Rattle.stamp.specs.PartsLaws.{list-parts}
+use Rattle.stamp.specs.PartsLaws.{whole-stamp}
 use Rattle.stamp.specs.Stamp.{Stamp, stampFits, stampRules}
 use Rattle.stamp.specs.declared.Parts.{Parts}
 use Rattle.tally.specs.Tap.{fields, tapOf, tapFits, wordOf, bodyFits, FitsBits}
@@ -29,11 +28,6 @@ use Rattle.fields.specs.Fields.{fieldsFit}
 use Rattle.wire.specs.Kinds.{widths, headKind, recordKind, stampBody, tapBody}
 use Rattle.wire.specs.Write.{writable}
 use Rattle.gossip.specs.Message.{headOf, lineFor}
-
--- a stamp of eight parts by its parts
-pub eight-parts : (s : Stamp) → length s ≡ parts → listOf (partsAt 0 s) ≡ s
-unfolding parts
-eight-parts s e = list-parts 0 s (omega arith) ∙ take-all 8 s (omega arith)
 
 -- a value within its width, before others that are
 wide : (w v : ℕ) (ws vs : List ℕ) → v < 256 ^ w → T (fieldsFit ws vs) → T (fieldsFit (w ∷ ws) (v ∷ vs))
@@ -89,7 +83,8 @@ module _ (m : Message) (h : T (messageFits bodyFits m)) where
   records-few = leb→le (length (m .records)) logRoom (rule 2)
 
   stamp-parts : listOf (partsAt 0 (m .stamp)) ≡ m .stamp
-  stamp-parts = eight-parts (m .stamp) (fits (m .screens) (m .stamp) (rule 1) .long)
+  unfolding parts
+  stamp-parts = whole-stamp (m .stamp) (fits (m .screens) (m .stamp) (rule 1) .long)
 
   head-fit : T (fieldsFit (widths headKind) (headOf m))
   unfolding headKind headOf parts logRoom
@@ -128,7 +123,8 @@ module _ (m : Message) (h : T (messageFits bodyFits m)) where
     number-small = omega (arith, known-le (m .stamp) r known, fits (m .screens) (m .stamp) (rule 1) .words (r .origin))
 
     label-parts : listOf (partsAt 0 (r .label)) ≡ r .label
-    label-parts = eight-parts (r .label) (kept .label-fits .long)
+    unfolding parts
+    label-parts = whole-stamp (r .label) (kept .label-fits .long)
 
     label-fit : T (stampFits (m .screens) (r .label))
     unfolding recordFits

@@ -14,7 +14,7 @@ use borrow.Author.Tests.{le-ltb}
 use Rattle.stamp.specs.Limits.{parts, word}
 use Rattle.lists.specs.Tests.{every}
 use Rattle.stamp.specs.Stamp.{Stamp, part, atMost, merge, replace, total, zeros, over, excess, stampRules, stampFits}
-use Rattle.lists.specs.Facts.{either, tell, clash, every-place, getD-every as place-every, and-l, and-r, both, all-at, all-from, done, _also_}
+use Rattle.lists.specs.Facts.{either, tell, clash, every-place, getD-every, and-l, and-r, both, all-at, all-from, done, _also_}
 
 -- b covers a, part by part
 abbrev pub Covers : Stamp → Stamp → Type 0
@@ -252,12 +252,22 @@ fits n s t =
         subst (λ (j : ℕ). part s j ≡ 0) (back h)
         (sym (getD-drop n s (k - n) 0) ∙ eqb→eq (part (drop n s) (k - n)) 0 (every-place (λ x. eqb x 0) (drop n s) 0 (all-at (stampRules n s) 2 t) tt (k - n)))
 
+-- what the test says of the whole stamp
+module _ (n : ℕ) (s : Stamp) (t : T (stampFits n s)) where
+  pub fits-long : length s ≡ 8
+  unfolding parts
+  fits-long = fits n s t .long
+
+  pub fits-words : T (every (λ x. ltb x word) s)
+  unfolding stampFits
+  fits-words = all-at (stampRules n s) 1 t
+
 pub fits-test : (n : ℕ) (s : Stamp) → Fits n s → T (stampFits n s)
 unfolding stampFits
 fits-test n s f =
     all-from {cs = stampRules n s}
-    (subst (λ (w : ℕ). T (eqb (length s) w)) (f .long) (eqb-refl (length s)) also place-every (λ x. ltb x word) s 0 (λ k h. lt→ltb (part s k) word (f .words k))
-    also place-every (λ x. eqb x 0) (drop n s) 0 (λ k h. subst (λ (v : ℕ). T (eqb v 0)) (sym (getD-drop n s k 0 ∙ f .past (n + k) (omega arith))) tt) also done)
+    (subst (λ (w : ℕ). T (eqb (length s) w)) (f .long) (eqb-refl (length s)) also getD-every (λ x. ltb x word) s 0 (λ k h. lt→ltb (part s k) word (f .words k))
+    also getD-every (λ x. eqb x 0) (drop n s) 0 (λ k h. subst (λ (v : ℕ). T (eqb v 0)) (sym (getD-drop n s k 0 ∙ f .past (n + k) (omega arith))) tt) also done)
 
 pub fits-merge : (n : ℕ) (a b : Stamp) → Fits n a → Fits n b → Fits n (merge a b)
 fits-merge n a b f g =

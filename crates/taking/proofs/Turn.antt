@@ -6,7 +6,7 @@ use mathlib.Core.Path.{_≡_, refl, sym, ap, ap₂, _∙_}
 use mathlib.Core.List.{List, [], _∷_, _++_, append-assoc}
 use lib.Dec.{T, ltb, lt→ltb}
 use lib.ListN.{length, getD, set, replicate, length-set}
-use lib.Seq.{set-append-left, take-all}
+use lib.Seq.{set-append-left}
 use Rattle.lists.specs.Facts.{getD-every}
 use Rattle.lists.specs.Part.{mid, patch, length-mid}
 use Rattle.lists.specs.RowLaws.{Wide}
@@ -14,8 +14,7 @@ use Rattle.lists.specs.Rows.{flat}
 use Rattle.lists.specs.Tests.{every}
 use Rattle.stamp.specs.Laws.{set-replace}
 use Rattle.stamp.specs.Limits.{parts, word}
-use Rattle.stamp.specs.Parts.{partsAt, listOf}
-use Rattle.stamp.specs.PartsLaws.{list-parts}
+use Rattle.stamp.specs.Parts.{listOf}
 use Rattle.stamp.specs.Stamp.{Stamp, part, replace}
 use Rattle.stamp.specs.declared.Parts.{Parts}
 use Rattle.tally.specs.Tap.{bodyFits, tapOf}
@@ -110,12 +109,6 @@ module _ (ws : List ℕ) (h : Held ws) where
       ap₂ (λ (r : List ℕ) (k : ℕ). set (patch 76 2816 ws r) 2 k) region number
       ∙ ap (λ (r : List ℕ). set (patch 76 2816 r (logWords logRoom rs)) 2 (length rs)) (sym (h .words))
       ∙ put-log b (h .shape) rs
-
-pub whole-stamp : (s : Stamp) → length s ≡ 8 → listOf (partsAt 0 s) ≡ s
-whole-stamp s e =
-    let l : 0 + 8 ≤ length s = omega arith in
-    let m : length s ≤ 8 = omega arith in
-    list-parts 0 s l ∙ take-all 8 s m
 
 -- our own number is one of the stamp's parts
 pub own-small : (b : Book) → Sound b → b .me < 8
