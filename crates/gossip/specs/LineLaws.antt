@@ -21,7 +21,8 @@ use Rattle.fields.specs.Fields.{fieldsFit}
 use Rattle.tally.specs.Tap.{fields, tapFits, tapOf, bodyFits}
 use Rattle.tally.specs.WordLaws.{fits-bits, word-tap, tap-word, body-tap}
 use Rattle.tally.specs.declared.Tap.{Tap}
-use Rattle.ledger.specs.Limits.{fewest, most, logRoom}
+use Rattle.ledger.specs.LimitLaws.{range-me, range-most}
+use Rattle.ledger.specs.Limits.{most, logRoom}
 use Rattle.ledger.specs.Message.{Message, inRange, messageRules, messageFits}
 use Rattle.ledger.specs.Record.{Record, recordRules, recordFits, knows, isKnown}
 use Rattle.wire.specs.Kinds.{Kind, headKind, recordKind, recordIn, stampAt, tapAt, stampBody, tapBody}
@@ -144,12 +145,11 @@ module _ (m : Message) (t : T (messageFits bodyFits m)) where
   few = all-at (messageRules bodyFits m) 2 t
 
   pub house : m .screens ≤ 8
-  unfolding inRange most
-  house = leb→le (m .screens) 8 (all-at (leb fewest (m .screens) ∷ leb (m .screens) most ∷ ltb (m .sender) (m .screens) ∷ []) 1 in-house)
+  unfolding most
+  house = range-most (m .sender) (m .screens) in-house
 
   sender-small : m .sender < m .screens
-  unfolding inRange
-  sender-small = ltb→lt (m .sender) (m .screens) (all-at (leb fewest (m .screens) ∷ leb (m .screens) most ∷ ltb (m .sender) (m .screens) ∷ []) 2 in-house)
+  sender-small = range-me (m .sender) (m .screens) in-house
 
   count-small : length (m .records) ≤ 256
   unfolding logRoom

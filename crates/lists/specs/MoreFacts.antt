@@ -10,7 +10,7 @@ use mathlib.Core.Option.{some, none}
 use lib.Dec.{eqb, T, eqb-refl, eqb→eq}
 use lib.ListN.{set, replicate, length, getD}
 use lib.Seq.{getD-set-same, getD-set-other}
-use Rattle.lists.specs.Facts.{either, tell, clash, bit, both, and-r, and-l, here, _∈_, there, is-true, is-false, keep-length, mem-keep, none-in, keep-mem, firstOf-some, every-at}
+use Rattle.lists.specs.Facts.{either, tell, clash, bit, bit-le, both, and-r, and-l, here, _∈_, there, is-true, is-false, keep-length, mem-keep, none-in, keep-mem, firstOf-some, every-at}
 use Rattle.lists.specs.Order.{insert, keyBefore}
 use Rattle.lists.specs.Sorted.{before-total}
 use Rattle.lists.specs.Tests.{every, allBelow, numbers, keep, firstOf}
@@ -20,10 +20,6 @@ eq→eqb a b e = subst (λ (x : ℕ). T (eqb a x)) e (eqb-refl a)
 
 pub same-or-not : (a b : ℕ) → (a ≡ b) ⊎ (a ≢ b)
 same-or-not a b = either (tell (eqb a b)) (λ t. inl (eqb→eq a b t)) (λ t. inr (λ e. clash (eqb a b) (eq→eqb a b e) t))
-
-pub bit-le : (c : Bool) → bit c ≤ 1
-bit-le true = omega arith
-bit-le false = omega arith
 
 -- two tests that never pass together
 pub bit-apart : (a c : Bool) → (T a → T c → ⊥) → bit a + bit c ≤ 1

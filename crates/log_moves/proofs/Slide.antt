@@ -2,12 +2,11 @@
 use Prim.Native.Nat.{ℕ, suc, _+_, _-_, _*_, _≤_, _<_}
 use native.Mathlib.Omega.{arith}
 use mathlib.Core.Path.{_≡_, refl, sym, ap, ap₂, subst, _∙_}
-use mathlib.Core.Bool.{Bool, true, false, _&&_, _||_}
+use mathlib.Core.Bool.{true, false}
 use mathlib.Core.List.{List, [], _∷_, _++_, List·Memᴰ·append-cases, List·Memᴰ·cases-cons}
-use lib.Dec.{T, ltb, eqb}
+use lib.Dec.{T}
 use lib.ListN.{length, take, drop, getD, set, length-set}
 use lib.Seq.{getD-take, getD-set-same, take-take, take-set-le, drop-set-lt, drop-cons, drop-drop}
-use borrow.Author.Tests.{le-ltb, eq-eqb}
 use Rattle.lists.specs.Tests.{every}
 use Rattle.lists.specs.Facts.{_∈_, either, here, none-in, is-true, is-false, not-from, every-at}
 use Rattle.lists.specs.Order.{keyBefore, rising}
@@ -22,15 +21,6 @@ use Rattle.log_moves.specs.Merge.{beforeOf, afterOf, Parted, Shifted, Sl
 use Rattle.log_moves.specs.OrderLaws.{rising-across}
 use Rattle.log_moves.specs.MergeLaws.{parted}
 use Rattle.log_moves.specs.RowLaws.{records-split, records-snoc, records-same, take-before, words-after}
-
--- with the first numbers equal the second ones decide
-pub second-decides : (x y p q : ℕ) → y ≤ x → x ≡ y → ltb p q ≡ keyBefore (x ∷ p ∷ []) (y ∷ q ∷ [])
-second-decides x y p q h e = rw (le-ltb x y h, eq-eqb x y e) (alone (ltb p q) (eqb p q))
-  where
-    alone : (c d : Bool) → c ≡ (c || d && false)
-    alone true d = refl
-    alone false true = refl
-    alone false false = refl
 
 -- of a rising list whose last does not stand after x, none does
 none-after :

@@ -7,7 +7,7 @@ use mathlib.Core.Bool.{Bool, true, false, not, _&&_, cond}
 use mathlib.Core.List.{List, []}
 use lib.Dec.{T}
 use lib.ListN.{length, getD, set, take, drop, length-take, length-drop, drop-of-length-le}
-use Rattle.lists.specs.Facts.{_∈_, bit}
+use Rattle.lists.specs.Facts.{_∈_, getD-in, bit}
 use Rattle.lists.specs.Order.{insert}
 use Rattle.lists.specs.Part.{mid, patch}
 use Rattle.lists.specs.Rows.{rows}
@@ -37,7 +37,7 @@ use Rattle.layout.specs.Words.{pieces, bookOf, wordsOf}
 use Rattle.layout.specs.WordsLaws.{Shape, piece-back}
 use Rattle.moves.specs.Moves.{countOne, added, isNew, applyOne, applyAll, shed, settled}
 use Rattle.moves.specs.Places.{noRecord, held-is, book-is, log-count, counted-count}
-use Rattle.moves.specs.Ready.{Countable, Insertable, Applicable, Ready, getD-in, appliedFrom, from-me, from-known, from-shape, from-log, from-none, from-all, from-next, newly-next, from-applicable}
+use Rattle.moves.specs.Ready.{Countable, Insertable, Applicable, Ready, appliedFrom, from-me, from-known, from-shape, from-log, from-none, from-all, from-next, newly-next, from-applicable}
 
 module _ (ws : List ℕ) (h : Held ws) where
   pub value-merged : (s : Stamp) → patch 68 8 ws (merge (mid 68 8 ws) s) ≡ wordsOf (withValue (merge s ((bookOf ws) .value)) (bookOf ws))

@@ -7,7 +7,7 @@ use mathlib.Core.List.{List, [], _∷_, _++_, append-assoc}
 use lib.Dec.{T, ltb, lt→ltb}
 use lib.ListN.{length, getD, set, replicate, length-set}
 use lib.Seq.{set-append-left}
-use Rattle.lists.specs.Facts.{getD-every}
+use Rattle.lists.specs.Facts.{getD-in, getD-every}
 use Rattle.lists.specs.Part.{mid, patch, length-mid}
 use Rattle.lists.specs.RowLaws.{Wide}
 use Rattle.lists.specs.Rows.{flat}
@@ -37,7 +37,6 @@ use Rattle.layout.specs.With.{withTable, withLog}
 use Rattle.layout.specs.Words.{pieces, tableWords, bookOf, wordsOf, lawful}
 use Rattle.layout.specs.WordsLaws.{piece-back}
 use Rattle.moves.specs.Places.{noRecord, held-long, me-small, log-count}
-use Rattle.moves.specs.Ready.{getD-in}
 
 -- a store past the front of a list
 set-past : (c r : List ℕ) (j v : ℕ) → set (c ++ r) (length c + j) v ≡ c ++ set r j v

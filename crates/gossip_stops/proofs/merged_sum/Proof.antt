@@ -1,5 +1,4 @@
 -- `gossip_stops::merged_sum` meets its contract. Assumes nothing.
-use Prim.Native.Nat.{_<_}
 use native.Mathlib.Omega.{arith}
 use mathlib.Core.Path.{sym, ap, subst, _∙_}
 use lib.Dec.{T, ltb}
