@@ -3,12 +3,13 @@ use Prim.Native.Nat.{ℕ, zero, suc, _+_, _≤_, _<_}
 use native.Mathlib.Omega.{arith}
 use mathlib.Core.Path.{_≡_, refl, sym, ap, subst, _∙_}
 use mathlib.Core.Logic.{_≢_}
-use mathlib.Core.Bool.{Bool, true, false, _&&_, cond}
+use mathlib.Core.Bool.{Bool, true, false, _&&_, cond, and-assoc}
 use mathlib.Core.List.{List, [], _∷_, map}
 use lib.Dec.{T, ltb, leb→le}
 use lib.ListN.{length, drop, drop-of-length-le}
 use borrow.Author.Tests.{lt-ltb}
 use Rattle.lists.specs.Facts.{all-at, is-true}
+use Rattle.lists.specs.MoreFacts.{regroup}
 use Rattle.lists.specs.Neighbours.{rising-next}
 use Rattle.lists.specs.Order.{keyBefore, rising}
 use Rattle.lists.specs.Tests.{every, keep}
@@ -32,17 +33,12 @@ unfoldable pub risesFrom : Kind → List ℕ → List (List ℕ) → Bool
 risesFrom k last [] = true
 risesFrom k last (p ∷ ps) = readable k p && (keyBefore last (place (held k p)) && risesFrom k (place (held k p)) ps)
 
-regroup : (r b e s : Bool) → (r && (b && (e && s))) ≡ ((r && e) && (b && s))
-regroup true true e s = refl
-regroup true false true s = refl
-regroup true false false s = refl
-regroup false b e s = refl
-
 neighbours : (k : Kind) (x : Record) (ps : List (List ℕ)) → risesFrom k (place x) ps ≡ (every (readable k) ps && rising place (x ∷ map (held k) ps))
 unfolding risesFrom
 neighbours k x [] = refl
 neighbours k x (p ∷ ps) =
     ap (λ (b : Bool). readable k p && (keyBefore (place x) (place (held k p)) && b)) (neighbours k (held k p) ps)
+    ∙ sym (and-assoc (readable k p) (keyBefore (place x) (place (held k p))) (every (readable k) ps && rising place (held k p ∷ map (held k) ps)))
     ∙ regroup (readable k p) (keyBefore (place x) (place (held k p))) (every (readable k) ps) (rising place (held k p ∷ map (held k) ps))
     ∙ ap (λ (b : Bool). (readable k p && every (readable k) ps) && b) (sym (rising-next place x (held k p) (map (held k) ps)))
 

@@ -37,16 +37,16 @@ pub every-replicate : {A : Type 0} (p : A → Bool) (n : ℕ) (a : A) → T (p a
 every-replicate p zero a t = tt
 every-replicate p (suc n) a t = both (p a) (every p (replicate n a)) t (every-replicate p n a t)
 
+pub regroup : (a b c d : Bool) → ((a && b) && (c && d)) ≡ ((a && c) && (b && d))
+regroup true true c d = refl
+regroup true false true d = refl
+regroup true false false d = refl
+regroup false b c d = refl
+
 -- two tests of all are one test of all, and a test may be told in other words
 pub every-and : {A : Type 0} (p q : A → Bool) (xs : List A) → every (λ x. p x && q x) xs ≡ (every p xs && every q xs)
 every-and p q [] = refl
-every-and p q (x ∷ xs) = ap (λ (b : Bool). (p x && q x) && b) (every-and p q xs) ∙ shuffle (p x) (q x) (every p xs) (every q xs)
-  where
-    shuffle : (a b c d : Bool) → ((a && b) && (c && d)) ≡ ((a && c) && (b && d))
-    shuffle true true c d = refl
-    shuffle true false true d = refl
-    shuffle true false false d = refl
-    shuffle false b c d = refl
+every-and p q (x ∷ xs) = ap (λ (b : Bool). (p x && q x) && b) (every-and p q xs) ∙ regroup (p x) (q x) (every p xs) (every q xs)
 
 pub every-same : {A : Type 0} (p q : A → Bool) (xs : List A) → ((x : A) → p x ≡ q x) → every p xs ≡ every q xs
 every-same p q [] f = refl
