@@ -9,9 +9,10 @@ use mathlib.Core.Option.{some}
 use borrow.Author.Tests.{ltb-true, ltb-false, eq-eqb, ne-eqb}
 use lib.Dec.{T, eqb, ltb}
 use lib.ListN.{length, getD, drop}
-use Rattle.lists.specs.Facts.{either}
+use Rattle.lists.specs.Facts.{either, is-true}
 use Rattle.wire.specs.Kinds.{openKind}
 use Rattle.wire.specs.Read.{lineOf, readable, readAs}
+use Rattle.wire.specs.ReadLaws.{told}
 use Rattle.wire.specs.Write.{Output, Meets, refuse}
 use Rattle.wire.specs.declared.Said.the-variants as said
 use Rattle.wire.specs.declared.Written.{Written}
@@ -28,7 +29,7 @@ use Rattle.opening.specs.Opening.{Opens}
 use Rattle.opening.specs.OpeningLaws.{wrong-length}
 use Rattle.opening.specs.declared.Opening as opening
 use Rattle.opening.specs.declared.Opening.the-variants as opened
-use Rattle.book.specs.Heard.{owes-unsound, owes-unread, told}
+use Rattle.book.specs.Heard.{owes-unsound, owes-unread}
 use Rattle.speech.specs.Speech.{bytesFor, sayable, sayOn}
 use Rattle.speech.specs.SpeechLaws.{says-front, reply-long}
 use Rattle.answering.specs.Answer.{Done, doneBy, sendSays, sendDone, badOn, refusalLong, kindIn, answerBy, Answers, openFrom, longIn}
@@ -164,9 +165,9 @@ module _ (ws bytes : List ℕ) where
       (i n : ℕ) → said.Open i n ≡ readAs openKind bytes → (r : opening.Opening) (words : List ℕ) → Opens (openOn ws i n) r words → Opens (openFrom ws bytes) r words
   unfolding openFrom openKind
   opens-read i n read r words p =
-      let t = told openKind bytes (said.Open i n) read (λ q. let z : _≡_ {A = ℕ} 0 1 = cc in omega arith) in
+      let t = told openKind bytes (said.Open i n) read (omega arith) in
       let line = lineOf openKind bytes in
       let q = t .1 in
       let first : i ≡ getD line 1 0 = cc in
       let second : n ≡ getD line 2 0 = cc in
-      rw (t .0) (subst (λ (x : ℕ). Opens (openOn ws x (getD line 2 0)) r words) first (subst (λ (x : ℕ). Opens (openOn ws i x) r words) second p))
+      rw (is-true (readable openKind bytes) (t .0)) (subst (λ (x : ℕ). Opens (openOn ws x (getD line 2 0)) r words) first (subst (λ (x : ℕ). Opens (openOn ws i x) r words) second p))

@@ -7,6 +7,7 @@ use mathlib.Core.Option.{Option, none, some}
 use lib.Dec.{eqb, ltb}
 use lib.ListN.{length, getD, drop}
 use Rattle.lists.specs.Tests.{firstOf}
+use Rattle.stamp.specs.Stamp.{Stamp}
 use Rattle.wire.specs.Kinds.{tapKind, questionKind, tapAt, stampAt}
 use Rattle.wire.specs.Read.{lineOf, readable}
 use Rattle.wire.specs.Write.{Output, refuse}
@@ -42,6 +43,13 @@ hearTap b bytes = let k = tapKind (b .screens) in heard (readable k bytes) b (ta
 
 unfoldable pub tapOn : List ℕ → List ℕ → Lent
 tapOn ws bytes = onBook ws (hearTap (bookOf ws) bytes)
+
+-- the prompt and the label that a question's bytes hold
+abbrev pub promptIn : List ℕ → List ℕ → ℕ
+promptIn ws bytes = getD (lineOf (questionKind (bookOf ws .screens)) bytes) 1 0
+
+abbrev pub labelIn : List ℕ → List ℕ → Stamp
+labelIn ws bytes = stampAt 2 (lineOf (questionKind (bookOf ws .screens)) bytes)
 
 abbrev pub hearQuestion : Book → List ℕ → Outcome
 hearQuestion b bytes = let k = questionKind (b .screens) in heard (readable k bytes) b (ask b (getD (lineOf k bytes) 1 0) (stampAt 2 (lineOf k bytes)))

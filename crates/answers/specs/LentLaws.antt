@@ -31,6 +31,10 @@ use Rattle.answers.specs.declared.Reply.the-variants as says
 abbrev pub lentOf : Outcome → Lent
 lentOf o = record { reply = o .reply; words = wordsOf (o .book) }
 
+-- an outcome that is settled is what a step owes
+pub owes : (o p : Outcome) (r : answer.Reply) (ws : List ℕ) → o ≡ p → spoken r ≡ p .reply → ws ≡ wordsOf (p .book) → Promise (lentOf o) r ws
+owes o p r ws e a w = record { answers = a ∙ ap (λ (x : Outcome). x .reply) (sym e); leaves = w ∙ ap (λ (x : Outcome). wordsOf (x .book)) (sym e) }
+
 module _ (b : Book) (s : Sound b) where
   pub book-back : bookOf (wordsOf b) ≡ b
   book-back = book-words b (sound-shape b s)

@@ -7,27 +7,22 @@ use mathlib.Core.List.{List}
 use lib.Dec.{T, ltb, ltb→lt}
 use lib.ListN.{getD}
 use Rattle.lists.specs.Facts.{and-l, and-r}
-use Rattle.stamp.specs.Stamp.{Stamp, atMost, stampFits}
+use Rattle.stamp.specs.Stamp.{atMost, stampFits}
 use Rattle.tally.specs.Limits.{promptCount}
 use Rattle.wire.specs.Kinds.{shaped, stampAt, questionKind}
 use Rattle.wire.specs.Read.{lineOf, readable}
 use Rattle.meaning.specs.AnswerLaws.{answered-exactly}
-use Rattle.meaning.specs.Book.{sound}
 use Rattle.meaning.specs.BookLaws.{at-sound}
 use Rattle.meaning.specs.Reply.{isAnswered, refusal}
 use Rattle.meaning.specs.Step.{ask}
 use Rattle.layout.specs.SoundWords.{lawful-sound}
 use Rattle.layout.specs.Words.{bookOf, lawful}
-use Rattle.answers.specs.Lent.{heard, questionOn}
+use Rattle.answers.specs.Lent.{heard, labelIn, questionOn}
 use Rattle.answers.specs.LentLaws.{lentOf}
-
--- the label that a question's bytes hold
-abbrev pub labelOf : List ℕ → List ℕ → Stamp
-labelOf ws bytes = stampAt 2 (lineOf (questionKind (bookOf ws .screens)) bytes)
 
 pub question-answered :
     (ws bytes : List ℕ) → lawful ws ≡ true → readable (questionKind (bookOf ws .screens)) bytes ≡ true
-    → isAnswered (questionOn ws bytes .reply) ≡ atMost (labelOf ws bytes) (bookOf ws .value)
+    → isAnswered (questionOn ws bytes .reply) ≡ atMost (labelIn ws bytes) (bookOf ws .value)
 unfolding questionOn readable questionKind
 question-answered ws bytes e r =
     let b = bookOf ws in

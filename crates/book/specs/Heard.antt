@@ -5,7 +5,6 @@
 use Prim.Native.Nat.{ℕ, _<_}
 use native.Mathlib.Omega.{arith}
 use mathlib.Core.Path.{_≡_, refl, sym, ap, subst, _∙_}
-use mathlib.Core.Logic.{_≢_}
 use mathlib.Core.Bool.{Bool, true, false, _&&_, cond}
 use mathlib.Core.List.{List, _∷_}
 use lib.Dec.{T, ltb, ltb→lt}
@@ -17,10 +16,10 @@ use Rattle.stamp.specs.declared.Parts.{Parts}
 use Rattle.tally.specs.Limits.{promptCount}
 use Rattle.tally.specs.Tap.{tapFits}
 use Rattle.tally.specs.declared.Tap.{Tap}
-use Rattle.wire.specs.Kinds.{Kind, shaped, tapAt, stampAt, headKind, tapKind, questionKind}
+use Rattle.wire.specs.Kinds.{shaped, tapAt, stampAt, tapKind, questionKind}
 use Rattle.wire.specs.Read.{lineOf, readable, readAs}
+use Rattle.wire.specs.ReadLaws.{told}
 use Rattle.wire.specs.Write.{Output, Meets, refuse}
-use Rattle.wire.specs.declared.Said.{Said}
 use Rattle.wire.specs.declared.Said.the-variants as said
 use Rattle.wire.specs.declared.Written.{Written}
 use Rattle.wire.specs.declared.Written.the-variants.{Refused}
@@ -56,30 +55,10 @@ module _ (ws : List ℕ) where
         let q : onBook ws (heard c (bookOf ws) o) ≡ lentOf o = on-sound (heard c (bookOf ws) o) ∙ ap (λ (d : Bool). lentOf (heard d (bookOf ws) o)) f in
         subst (λ (l : Lent). Promise l r w) (sym q) p
 
--- a reader's answer tells whether the bytes are a message of the kind
-module _ (k : Kind) (bytes : List ℕ) (v : Said) (read : v ≡ readAs k bytes) where
-  cases : (c : Bool) → readable k bytes ≡ c → v ≡ cond c (k .said (lineOf k bytes)) (said.Unreadable 1)
-  unfolding readAs
-  cases c e = read ∙ ap (λ (d : Bool). cond d (k .said (lineOf k bytes)) (said.Unreadable 1)) e
-
-  pub told : v ≢ said.Unreadable 1 → (readable k bytes ≡ true) × (v ≡ k .said (lineOf k bytes))
-  told n = go (readable k bytes) refl
-    where
-      go : (c : Bool) → readable k bytes ≡ c → (readable k bytes ≡ true) × (v ≡ k .said (lineOf k bytes))
-      go true e = (e, cases true e)
-      go false e = absurd (n (cases false e))
-
-  pub untold : v ≢ k .said (lineOf k bytes) → readable k bytes ≡ false
-  untold n = go (readable k bytes) refl
-    where
-      go : (c : Bool) → readable k bytes ≡ c → readable k bytes ≡ false
-      go true e = absurd (n (cases true e))
-      go false e = e
-
 -- a tap's bytes that are read
 module _ (ws bytes : List ℕ) (t : Tap) (l : Parts) (e : lawful ws ≡ true) (read : said.Tap t l ≡ readAs (tapKind (bookOf ws .screens)) bytes) where
-  tap-told : (readable (tapKind (bookOf ws .screens)) bytes ≡ true) × (said.Tap t l ≡ (tapKind (bookOf ws .screens)) .said (lineOf (tapKind (bookOf ws .screens)) bytes))
-  tap-told = told (tapKind (bookOf ws .screens)) bytes (said.Tap t l) read (λ q. let z : _≡_ {A = ℕ} 0 1 = cc in omega arith)
+  tap-told : T (readable (tapKind (bookOf ws .screens)) bytes) × (said.Tap t l ≡ (tapKind (bookOf ws .screens)) .said (lineOf (tapKind (bookOf ws .screens)) bytes))
+  tap-told = told (tapKind (bookOf ws .screens)) bytes (said.Tap t l) read (omega arith)
 
   tap-is : (t ≡ tapAt 1 (lineOf (tapKind (bookOf ws .screens)) bytes)) × (l ≡ partsAt 6 (lineOf (tapKind (bookOf ws .screens)) bytes))
   unfolding tapKind
@@ -89,7 +68,7 @@ module _ (ws bytes : List ℕ) (t : Tap) (l : Parts) (e : lawful ws ≡ true) (r
   unfolding readable tapKind
   tap-fits =
       let line = lineOf (tapKind (bookOf ws .screens)) bytes in
-      let kept : T (tapFits (tapAt 1 line) && stampFits (bookOf ws .screens) (stampAt 6 line)) = and-r (shaped 3 bytes) (tapFits (tapAt 1 line) && stampFits (bookOf ws .screens) (stampAt 6 line)) (subst T (sym (tap-told .0)) tt) in (
+      let kept : T (tapFits (tapAt 1 line) && stampFits (bookOf ws .screens) (stampAt 6 line)) = and-r (shaped 3 bytes) (tapFits (tapAt 1 line) && stampFits (bookOf ws .screens) (stampAt 6 line)) (tap-told .0) in (
         subst (λ (x : Tap). T (tapFits x)) (sym (tap-is .0)) (and-l (tapFits (tapAt 1 line)) (stampFits (bookOf ws .screens) (stampAt 6 line)) kept),
         subst (λ (x : Parts). T (stampFits (bookOf ws .screens) (listOf x))) (sym (tap-is .1)) (and-r (tapFits (tapAt 1 line)) (stampFits (bookOf ws .screens) (stampAt 6 line)) kept),
       )
@@ -98,13 +77,13 @@ module _ (ws bytes : List ℕ) (t : Tap) (l : Parts) (e : lawful ws ≡ true) (r
   unfolding tapOn
   tap-owes r w p =
       let line = lineOf (tapKind (bookOf ws .screens)) bytes in
-      owes-step ws e (readable (tapKind (bookOf ws .screens)) bytes) (tap-told .0) (tapStep (bookOf ws) (tapAt 1 line) (stampAt 6 line)) r w
+      owes-step ws e (readable (tapKind (bookOf ws .screens)) bytes) (is-true (readable (tapKind (bookOf ws .screens)) bytes) (tap-told .0)) (tapStep (bookOf ws) (tapAt 1 line) (stampAt 6 line)) r w
       (subst (λ (x : Tap). Promise (lentOf (tapStep (bookOf ws) x (stampAt 6 line))) r w) (tap-is .0) (subst (λ (x : Parts). Promise (lentOf (tapStep (bookOf ws) t (listOf x))) r w) (tap-is .1) p))
 
 -- a question's bytes that are read
 module _ (ws bytes : List ℕ) (p : ℕ) (l : Parts) (e : lawful ws ≡ true) (read : said.Question p l ≡ readAs (questionKind (bookOf ws .screens)) bytes) where
-  question-told : (readable (questionKind (bookOf ws .screens)) bytes ≡ true) × (said.Question p l ≡ (questionKind (bookOf ws .screens)) .said (lineOf (questionKind (bookOf ws .screens)) bytes))
-  question-told = told (questionKind (bookOf ws .screens)) bytes (said.Question p l) read (λ q. let z : _≡_ {A = ℕ} 0 1 = cc in omega arith)
+  question-told : T (readable (questionKind (bookOf ws .screens)) bytes) × (said.Question p l ≡ (questionKind (bookOf ws .screens)) .said (lineOf (questionKind (bookOf ws .screens)) bytes))
+  question-told = told (questionKind (bookOf ws .screens)) bytes (said.Question p l) read (omega arith)
 
   question-is : (p ≡ getD (lineOf (questionKind (bookOf ws .screens)) bytes) 1 0) × (l ≡ partsAt 2 (lineOf (questionKind (bookOf ws .screens)) bytes))
   unfolding questionKind
@@ -114,7 +93,7 @@ module _ (ws bytes : List ℕ) (p : ℕ) (l : Parts) (e : lawful ws ≡ true) (r
   unfolding readable questionKind
   question-fits =
       let line = lineOf (questionKind (bookOf ws .screens)) bytes in
-      let kept : T (ltb (getD line 1 0) promptCount && stampFits (bookOf ws .screens) (stampAt 2 line)) = and-r (shaped 4 bytes) (ltb (getD line 1 0) promptCount && stampFits (bookOf ws .screens) (stampAt 2 line)) (subst T (sym (question-told .0)) tt) in (
+      let kept : T (ltb (getD line 1 0) promptCount && stampFits (bookOf ws .screens) (stampAt 2 line)) = and-r (shaped 4 bytes) (ltb (getD line 1 0) promptCount && stampFits (bookOf ws .screens) (stampAt 2 line)) (question-told .0) in (
         subst (λ (x : ℕ). x < promptCount) (sym (question-is .0)) (ltb→lt (getD line 1 0) promptCount (and-l (ltb (getD line 1 0) promptCount) (stampFits (bookOf ws .screens) (stampAt 2 line)) kept)),
         subst (λ (x : Parts). T (stampFits (bookOf ws .screens) (listOf x))) (sym (question-is .1)) (and-r (ltb (getD line 1 0) promptCount) (stampFits (bookOf ws .screens) (stampAt 2 line)) kept),
       )
@@ -123,7 +102,7 @@ module _ (ws bytes : List ℕ) (p : ℕ) (l : Parts) (e : lawful ws ≡ true) (r
   unfolding questionOn
   question-owes r a =
       let line = lineOf (questionKind (bookOf ws .screens)) bytes in
-      owes-step ws e (readable (questionKind (bookOf ws .screens)) bytes) (question-told .0) (ask (bookOf ws) (getD line 1 0) (stampAt 2 line)) r ws
+      owes-step ws e (readable (questionKind (bookOf ws .screens)) bytes) (is-true (readable (questionKind (bookOf ws .screens)) bytes) (question-told .0)) (ask (bookOf ws) (getD line 1 0) (stampAt 2 line)) r ws
       (subst (λ (x : ℕ). Promise (lentOf (ask (bookOf ws) x (stampAt 2 line))) r ws) (question-is .0) (subst (λ (x : Parts). Promise (lentOf (ask (bookOf ws) p (listOf x))) r ws) (question-is .1)
       (record { answers = a; leaves = sym (lawful-held ws (subst T (sym e) tt) .words) ∙ sym (ap wordsOf (ask-keeps (bookOf ws) p (listOf l))) })))
 
@@ -136,10 +115,10 @@ pub send-owes : (ws out : List ℕ) → lawful ws ≡ true → (r : Written) (w 
 unfolding sendOn
 send-owes ws out e r w m = subst (λ (o : Output). Meets o r w) (ap (λ (c : Bool). cond c (putFront (bytesOf (send (bookOf ws))) out) (refuse 11 out)) (sym e)) m
 
--- a gossip's bytes that are read, and that are not
+-- a gossip's bytes that are read
 module _ (ws bytes : List ℕ) (sender screens count : ℕ) (m : Parts) (e : lawful ws ≡ true) (read : said.Head sender screens count m ≡ readGossip bytes) where
   gossip-line : T (wellFormed bytes) × (headLine bytes ≡ 1 ∷ sender ∷ screens ∷ count ∷ listOf m)
-  gossip-line = let t = gossip-told bytes (said.Head sender screens count m) read refl in (t .0, head-in bytes sender screens count m (t .1))
+  gossip-line = let t = gossip-told bytes (said.Head sender screens count m) read (omega arith) in (t .0, head-in bytes sender screens count m (t .1))
 
   pub gossip-heard : Heard bytes sender screens count (listOf m)
   unfolding partsAt listOf
@@ -154,11 +133,3 @@ module _ (ws bytes : List ℕ) (sender screens count : ℕ) (m : Parts) (e : law
   pub gossip-owes : (r : answer.Reply) (w : List ℕ) → Promise (lentOf (gossipStep (bookOf ws) (messageOf bytes))) r w → Promise (gossipOn ws bytes) r w
   unfolding gossipOn
   gossip-owes r w p = owes-step ws e (wellFormed bytes) (is-true (wellFormed bytes) (gossip-line .0)) (gossipStep (bookOf ws) (messageOf bytes)) r w p
-
-pub untold-gossip : (bytes : List ℕ) (v : Said) → v ≡ readGossip bytes → v ≢ headKind .said (headLine bytes) → wellFormed bytes ≡ false
-unfolding readGossip
-untold-gossip bytes v read n = go (wellFormed bytes) refl
-  where
-    go : (c : Bool) → wellFormed bytes ≡ c → wellFormed bytes ≡ false
-    go true f = absurd (n (read ∙ ap (λ (d : Bool). cond d (headKind .said (headLine bytes)) (said.Unreadable 1)) f))
-    go false f = f

@@ -11,9 +11,9 @@ use lib.ListN.{length, take, drop, getD, set, length-set, take-append-drop}
 use lib.Seq.{length-take-le, getD-take, take-take, take-suc, take-set-le, drop-set-lt, getD-set-same, set-split}
 use borrow.Author.Tests.{eq-eqb, ne-eqb, lt-ltb, le-ltb}
 use Rattle.lists.specs.FirstScan.{first-rest, first-end}
-use Rattle.lists.specs.Facts.{either, clash, or-l, or-r}
+use Rattle.lists.specs.Facts.{either, clash, both, or-l, or-r}
 use Rattle.lists.specs.MoreFacts.{eq→eqb}
-use Rattle.lists.specs.Neighbours.{rising-next, rising-front, insert-before, insert-last}
+use Rattle.lists.specs.Neighbours.{rising-next, rising-front, insert-front, insert-last}
 use Rattle.lists.specs.Order.{keyBefore, rising, insert}
 use Rattle.lists.specs.Scan.{rest, le-or-lt}
 use Rattle.lists.specs.Tests.{every, exists}
@@ -67,7 +67,7 @@ module _ (r : List ℕ) (i j w : ℕ) (next : j + 1 ≡ i) (h : i < length r) wh
   moved-up l =
       let x = getD r j 0 in
       ap (λ (a : List ℕ). insert wordKey w a ++ drop (i + 1) r) last
-      ∙ ap (λ (a : List ℕ). a ++ drop (i + 1) r) (insert-before wordKey w x (take j r) (before w x l))
+      ∙ ap (λ (a : List ℕ). a ++ drop (i + 1) r) (insert-front wordKey w (take j r) (x ∷ []) (both (keyBefore (wordKey w) (wordKey x)) true (before w x l) tt))
       ∙ append-assoc (insert wordKey w (take j r)) (x ∷ []) (drop (i + 1) r)
       ∙ sym (ap₂ (λ (a b : List ℕ). insert wordKey w a ++ b) (take-set-le j r i x (omega arith)) moved)
     where

@@ -9,45 +9,27 @@ use mathlib.Core.Path.{_≡_, refl, ap}
 use mathlib.Core.Bool.{Bool, true, false, cond}
 use mathlib.Core.List.{List, [], _∷_, _++_}
 use borrow.Author.Tests.{ltb-true, ltb-false, le-ltb}
-use lib.Dec.{T, eqb, ltb, leb, leb→le}
+use lib.Dec.{T, eqb, ltb}
 use lib.ListN.{length, take}
-use Rattle.lists.specs.Facts.{and-l, and-r}
 use Rattle.lists.specs.Part.{mid}
-use Rattle.lists.specs.Tests.{every}
 use Rattle.ledger.specs.Limits.{logRoom}
-use Rattle.wire.specs.Kinds.{bodyOf, lookup}
+use Rattle.wire.specs.Kinds.{bodyOf}
+use Rattle.wire.specs.Laws.{body-few}
 use Rattle.wire.specs.declared.Body.{Body}
 use Rattle.wire.specs.declared.Body.the-variants.{Long, Bad}
 use Rattle.frames.specs.declared.Frame.{Frame}
 use Rattle.frames.specs.declared.Frame.the-variants.{More, Whole, Stop}
 use Rattle.frames.specs.Frame.{expected, countIn, countEnd, headLong, recordLong, gossipFrame, bodyFrame, frameOf}
 
--- the longest message: a head and 256 records; the longest body: a record's
+-- the longest message: a head and 256 records
 abbrev pub longest : ℕ
 longest = 12_069
-
-abbrev pub longestBody : ℕ
-longestBody = 46
 
 -- the frame is told: no more bytes are asked for
 abbrev pub told : Frame → Bool
 told (More n) = false
 told (Whole n) = true
 told Stop = true
-
--- a body that a table has is no longer than all of them
-lookup-few : (m k n : ℕ) (table : List (ℕ × ℕ)) → T (every (λ l. leb (l .1) m) table) → lookup k table ≡ Long n → n ≤ m
-lookup-few m k n [] t e = let z : _≡_ {A = ℕ} 0 1 = cc in absurd (omega arith)
-lookup-few m k n (l ∷ ls) t e = go (eqb k (l .0)) (lookup-few m k n ls (and-r (leb (l .1) m) (every (λ x. leb (x .1) m) ls) t)) e
-  where
-    go : (c : Bool) → (lookup k ls ≡ Long n → n ≤ m) → cond c (Long (l .1)) (lookup k ls) ≡ Long n → n ≤ m
-    go true rec q = let z : l .1 ≡ n = cc in omega (arith, leb→le (l .1) m (and-l (leb (l .1) m) (every (λ x. leb (x .1) m) ls) t))
-    go false rec q = rec q
-
-pub body-few : (k n : ℕ) → bodyOf k ≡ Long n → n ≤ longestBody
-unfolding bodyOf
-body-few k n e =
-    lookup-few longestBody k n ((1, 36) ∷ (2, 46) ∷ (3, 41) ∷ (4, 33) ∷ (5, 32) ∷ (6, 32) ∷ (7, 43) ∷ (8, 1) ∷ (9, 1) ∷ (10, 4) ∷ (11, 2) ∷ (12, 0) ∷ []) tt e
 
 -- what a gossip's head tells, by its first five bytes
 five-tell : (a b c d e : ℕ) (rest other : List ℕ) → gossipFrame (a ∷ b ∷ c ∷ d ∷ e ∷ rest) ≡ gossipFrame (a ∷ b ∷ c ∷ d ∷ e ∷ other)

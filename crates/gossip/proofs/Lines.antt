@@ -1,11 +1,11 @@
 -- What `read_gossip` has settled where it returns. Assumes nothing.
 use Prim.Native.Nat.{ℕ, _+_, _*_, _≤_, _<_}
 use native.Mathlib.Omega.{arith}
-use mathlib.Core.Path.{_≡_, refl, ap}
+use mathlib.Core.Path.{_≡_}
 use mathlib.Core.Bool.{true, false}
 use mathlib.Core.List.{List}
 use lib.Dec.{leb→le}
-use lib.ListN.{length, getD, take, length-take}
+use lib.ListN.{length, take, length-take}
 use borrow.Author.Tests.{eq-eqb, ne-eqb}
 use Rattle.lists.specs.Facts.{is-true, is-false, not-from}
 use Rattle.stamp.specs.declared.Parts.{Parts}
@@ -13,11 +13,12 @@ use Rattle.stamp.specs.Parts.{listOf, partsAt}
 use Rattle.ledger.specs.Limits.{logRoom}
 use Rattle.wire.specs.Kinds.{headKind, recordKind}
 use Rattle.wire.specs.Laws.{length-readable, lawful-head}
-use Rattle.wire.specs.Read.{lineOf, readable, readAs}
+use Rattle.wire.specs.Read.{readable, readAs}
+use Rattle.wire.specs.ReadLaws.{told}
 use Rattle.wire.specs.declared.Said.the-variants as said
-use Rattle.gossip.specs.Message.{headLong, recordLong, partsOf, inOrder, wellFormed, readGossip}
-use Rattle.gossip.specs.Parts.{head-rules, head-told}
-use Rattle.gossip.specs.Told.{head-in}
+use Rattle.gossip.specs.Message.{headLong, recordLong, headLine, countIn, partsOf, inOrder, wellFormed, readGossip}
+use Rattle.gossip.specs.Parts.{head-rules}
+use Rattle.gossip.specs.Told.{head-in, head-count}
 
 pub headless : (bytes : List ℕ) → readable headKind (take headLong bytes) ≡ false → said.Unreadable 1 ≡ readGossip bytes
 unfolding readGossip wellFormed
@@ -30,15 +31,14 @@ too-short bytes h =
 
 module _ (bytes : List ℕ) (sender screens count : ℕ) (stamp : Parts) (read : said.Head sender screens count stamp ≡ readAs headKind (take headLong bytes)) where
   has-head : readable headKind (take headLong bytes) ≡ true
-  has-head = is-true (readable headKind (take headLong bytes)) (head-told (take headLong bytes) (said.Head sender screens count stamp) read refl .0)
+  has-head = is-true (readable headKind (take headLong bytes)) (told headKind (take headLong bytes) (said.Head sender screens count stamp) read (omega arith) .0)
 
   -- at most 256 records
   pub few : count ≤ 256
-  unfolding logRoom
+  unfolding logRoom headLine
   few =
-      let t = head-told (take headLong bytes) (said.Head sender screens count stamp) read refl in
-      let l = lineOf headKind (take headLong bytes) in
-      omega (arith, leb→le (getD l 3 0) 256 (head-rules (take headLong bytes) (t .0) .1), ap (λ (r : List ℕ). getD r 3 0) (t .1))
+      let t = told headKind (take headLong bytes) (said.Head sender screens count stamp) read (omega arith) in
+      omega (arith, leb→le (countIn bytes) 256 (head-rules (take headLong bytes) (t .0) .1), head-count bytes sender screens count stamp read)
 
   pub wrong-long : (length bytes ≡ headLong + count * recordLong → ⊥) → said.Unreadable 1 ≡ readGossip bytes
   unfolding readGossip wellFormed

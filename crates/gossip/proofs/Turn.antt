@@ -2,12 +2,14 @@
 use Prim.Native.Nat.{ℕ, zero, suc, _+_, _≤_, _<_}
 use native.Mathlib.Omega.{arith}
 use mathlib.Core.Path.{_≡_, refl, sym, ap, subst, _∙_}
-use mathlib.Core.Bool.{Bool, true, false, _&&_, cond}
+use mathlib.Core.Logic.{_≢_}
+use mathlib.Core.Bool.{Bool, true, false, _&&_, cond, and-assoc}
 use mathlib.Core.List.{List, [], _∷_, map}
 use lib.Dec.{T, ltb, leb→le}
 use lib.ListN.{length, drop, drop-of-length-le}
 use borrow.Author.Tests.{lt-ltb}
 use Rattle.lists.specs.Facts.{all-at, is-true}
+use Rattle.lists.specs.MoreFacts.{regroup}
 use Rattle.lists.specs.Neighbours.{rising-next}
 use Rattle.lists.specs.Order.{keyBefore, rising}
 use Rattle.lists.specs.Tests.{every, keep}
@@ -17,29 +19,26 @@ use Rattle.tally.specs.declared.Tap.{Tap}
 use Rattle.tally.specs.Tap.{bodyFits}
 use Rattle.ledger.specs.Record.{Record, place, recordRules, recordFits}
 use Rattle.wire.specs.Kinds.{Kind, recordKind}
-use Rattle.wire.specs.Read.{readable, readAs}
+use Rattle.wire.specs.Laws.{lawful-record}
+use Rattle.wire.specs.Read.{lineOf, readable, readAs}
+use Rattle.wire.specs.ReadLaws.{told, told-line, untold}
 use Rattle.wire.specs.declared.Said.{Said}
 use Rattle.wire.specs.declared.Said.the-variants as said
 use Rattle.gossip.specs.Message.{partsOf, held, inOrder}
 use Rattle.gossip.specs.Find.{partAt, originOf, below}
-use Rattle.gossip.specs.Parts.{length-parts, next-part, numberIn, record-told, record-untold, part-rules}
+use Rattle.gossip.specs.Parts.{length-parts, next-part, part-rules}
 
 -- the parts that are left keep their rules and rise from the last place on
 unfoldable pub risesFrom : Kind → List ℕ → List (List ℕ) → Bool
 risesFrom k last [] = true
 risesFrom k last (p ∷ ps) = readable k p && (keyBefore last (place (held k p)) && risesFrom k (place (held k p)) ps)
 
-regroup : (r b e s : Bool) → (r && (b && (e && s))) ≡ ((r && e) && (b && s))
-regroup true true e s = refl
-regroup true false true s = refl
-regroup true false false s = refl
-regroup false b e s = refl
-
 neighbours : (k : Kind) (x : Record) (ps : List (List ℕ)) → risesFrom k (place x) ps ≡ (every (readable k) ps && rising place (x ∷ map (held k) ps))
 unfolding risesFrom
 neighbours k x [] = refl
 neighbours k x (p ∷ ps) =
     ap (λ (b : Bool). readable k p && (keyBefore (place x) (place (held k p)) && b)) (neighbours k (held k p) ps)
+    ∙ sym (and-assoc (readable k p) (keyBefore (place x) (place (held k p))) (every (readable k) ps && rising place (held k p ∷ map (held k) ps)))
     ∙ regroup (readable k p) (keyBefore (place x) (place (held k p))) (every (readable k) ps) (rising place (held k p ∷ map (held k) ps))
     ∙ ap (λ (b : Bool). (readable k p && every (readable k) ps) && b) (sym (rising-next place x (held k p) (map (held k) ps)))
 
@@ -77,17 +76,17 @@ module _ (n : ℕ) (m : Stamp) (count : ℕ) (bytes : List ℕ) (i : ℕ) (h : i
   unfolding risesFrom left
   step = rw (next-part count bytes i h)
 
-  pub pass-unread : (v : Said) → v ≡ readAs (recordKind n m) (partAt i bytes) → (numberIn v ≡ 2 → ⊥) → risesFrom (recordKind n m) last (drop i (partsOf count bytes)) ≡ false
+  pub pass-unread : (v : Said) → v ≡ readAs (recordKind n m) (partAt i bytes) → v ≢ recordKind n m .said (lineOf (recordKind n m) (partAt i bytes)) → risesFrom (recordKind n m) last (drop i (partsOf count bytes)) ≡ false
   unfolding left
-  pass-unread v read other = step ∙ rw (record-untold n m (partAt i bytes) v read other)
+  pass-unread v read other = step ∙ rw (untold (recordKind n m) (partAt i bytes) v read other)
 
   module _ (o q : ℕ) (l : Parts) (t : Tap) (read : said.Record o q l t ≡ readAs (recordKind n m) (partAt i bytes)) where
     known : readable (recordKind n m) (partAt i bytes) ≡ true
-    known = is-true (readable (recordKind n m) (partAt i bytes)) (record-told n m (partAt i bytes) (said.Record o q l t) read refl .0)
+    known = is-true (readable (recordKind n m) (partAt i bytes)) (told (recordKind n m) (partAt i bytes) (said.Record o q l t) read (omega arith) .0)
 
     stands : place (held (recordKind n m) (partAt i bytes)) ≡ o ∷ q ∷ []
     unfolding held
-    stands = rw (record-told n m (partAt i bytes) (said.Record o q l t) read refl .1)
+    stands = rw (told-line (recordKind n m) (partAt i bytes) (said.Record o q l t) read (lawful-record n m) (omega arith))
 
     pub pass-falls : keyBefore last (o ∷ q ∷ []) ≡ false → risesFrom (recordKind n m) last (drop i (partsOf count bytes)) ≡ false
     unfolding left

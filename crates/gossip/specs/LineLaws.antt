@@ -7,21 +7,22 @@ use native.Mathlib.Omega.{arith}
 use mathlib.Core.Path.{_≡_, refl, sym, ap, subst, _∙_}
 use mathlib.Core.Bool.{true, _&&_}
 use mathlib.Core.List.{List, [], _∷_, _++_}
-use lib.Dec.{T, leb, ltb, leb→le, ltb→lt, lt→ltb, eqb→eq}
+use lib.Dec.{T, leb, ltb, leb→le, ltb→lt, lt→ltb}
 use lib.ListN.{length, getD}
-use lib.Seq.{take-all}
 use Rattle.lists.specs.Facts.{and-l, and-r, both, all-at, is-true, every-place}
 use Rattle.lists.specs.Tests.{every}
-use Rattle.stamp.specs.Limits.{parts, word}
+use Rattle.stamp.specs.Laws.{fits-long, fits-words}
+use Rattle.stamp.specs.Limits.{word}
 use Rattle.stamp.specs.Parts.{partsAt, listOf}
-use Rattle.stamp.specs.PartsLaws.{list-parts}
-use Rattle.stamp.specs.Stamp.{Stamp, part, stampRules, stampFits}
+use Rattle.stamp.specs.PartsLaws.{whole-stamp}
+use Rattle.stamp.specs.Stamp.{Stamp, part, stampFits}
 use Rattle.stamp.specs.declared.Parts.{Parts}
 use Rattle.fields.specs.Fields.{fieldsFit}
 use Rattle.tally.specs.Tap.{fields, tapFits, tapOf, bodyFits}
 use Rattle.tally.specs.WordLaws.{fits-bits, word-tap, tap-word, body-tap}
 use Rattle.tally.specs.declared.Tap.{Tap}
-use Rattle.ledger.specs.Limits.{fewest, most, logRoom}
+use Rattle.ledger.specs.LimitLaws.{range-me, range-most}
+use Rattle.ledger.specs.Limits.{most, logRoom}
 use Rattle.ledger.specs.Message.{Message, inRange, messageRules, messageFits}
 use Rattle.ledger.specs.Record.{Record, recordRules, recordFits, knows, isKnown}
 use Rattle.wire.specs.Kinds.{Kind, headKind, recordKind, recordIn, stampAt, tapAt, stampBody, tapBody}
@@ -42,18 +43,11 @@ fit-append (w ∷ ws) us (v ∷ vs) xs t u =
 -- a stamp that keeps its rules is a value of eight parts, each in its width
 module _ (n : ℕ) (s : Stamp) (t : T (stampFits n s)) where
   stamp-list : listOf (partsAt 0 s) ≡ s
-  unfolding stampFits parts
-  stamp-list =
-      let e : length s ≡ 8 = eqb→eq (length s) 8 (all-at (stampRules n s) 0 t) in
-      list-parts 0 s (omega arith) ∙ take-all 8 s (omega arith)
-
-  words : T (every (λ x. ltb x word) s)
-  unfolding stampFits
-  words = all-at (stampRules n s) 1 t
+  stamp-list = whole-stamp s (fits-long n s t)
 
   stamp-widths : T (fieldsFit stampBody s)
   unfolding word listOf
-  stamp-widths = subst (λ (l : Stamp). T (fieldsFit stampBody l)) stamp-list (subst (λ (l : Stamp). T (every (λ x. ltb x word) l)) (sym stamp-list) words)
+  stamp-widths = subst (λ (l : Stamp). T (fieldsFit stampBody l)) stamp-list (subst (λ (l : Stamp). T (every (λ x. ltb x word) l)) (sym stamp-list) (fits-words n s t))
 
 -- what a readable line says is that line
 pub said-line : (k : Kind) → Lawful k → (bytes : List ℕ) → T (readable k bytes) → figures (k .said (lineOf k bytes)) ≡ lineOf k bytes
@@ -109,7 +103,7 @@ module _ (n : ℕ) (r : Record) (t : T (recordFits bodyFits n r)) where
     number-small : r .number < 4294967296
     unfolding isKnown knows word
     number-small =
-        omega (arith, leb→le (r .number) (part m (r .origin)) k, ltb→lt (part m (r .origin)) word (every-place (λ x. ltb x word) m 0 (words n m fit) tt (r .origin)))
+        omega (arith, leb→le (r .number) (part m (r .origin)) k, ltb→lt (part m (r .origin)) word (every-place (λ x. ltb x word) m 0 (fits-words n m fit) tt (r .origin)))
 
     widths-kept : T (fieldsFit (1 ∷ 1 ∷ 4 ∷ stampBody ++ tapBody) (lineFor r))
     unfolding lineFor
@@ -151,12 +145,11 @@ module _ (m : Message) (t : T (messageFits bodyFits m)) where
   few = all-at (messageRules bodyFits m) 2 t
 
   pub house : m .screens ≤ 8
-  unfolding inRange most
-  house = leb→le (m .screens) 8 (all-at (leb fewest (m .screens) ∷ leb (m .screens) most ∷ ltb (m .sender) (m .screens) ∷ []) 1 in-house)
+  unfolding most
+  house = range-most (m .sender) (m .screens) in-house
 
   sender-small : m .sender < m .screens
-  unfolding inRange
-  sender-small = ltb→lt (m .sender) (m .screens) (all-at (leb fewest (m .screens) ∷ leb (m .screens) most ∷ ltb (m .sender) (m .screens) ∷ []) 2 in-house)
+  sender-small = range-me (m .sender) (m .screens) in-house
 
   count-small : length (m .records) ≤ 256
   unfolding logRoom

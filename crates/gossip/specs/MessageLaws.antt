@@ -6,15 +6,17 @@
 --     well-exactly     so bytes are well formed exactly when they are the writing of a message that keeps every rule
 --     one-message      two byte strings that hold the same message are equal
 --     bytes-of-bytes   every element of a writing is a byte, length-bytes-of   its length is fixed by the number of records
+--     head-long        its head's length, records-writable   each of its records is taken by the writer
 --     record-held      record i of a well formed message is readable, and holds the message's record i
 use Prim.Native.Nat.{ℕ, zero, suc, _+_, _*_, _<_}
 use mathlib.Core.Path.{_≡_, refl, sym, ap, ap₂, subst, _∙_}
 use mathlib.Core.Bool.{Bool, _&&_}
 use mathlib.Core.List.{List, [], _∷_, _++_, map, append-nil}
-use lib.Dec.{T, leb, eqb, eqb-refl}
+use lib.Dec.{T, leb, eqb}
 use lib.ListN.{length, getD, take, drop, length-append, length-map, List·getD-map}
 use lib.Seq.{take-at, drop-at}
-use Rattle.lists.specs.Facts.{and-l, and-r, both, all-at, done, _also_, all-from, every-getD, same-test}
+use Rattle.lists.specs.Facts.{_∈_, and-l, and-r, both, all-at, done, _also_, all-from, every-at, every-getD, same-test}
+use Rattle.lists.specs.MoreFacts.{eq→eqb}
 use Rattle.lists.specs.Order.{rising, sameKey}
 use Rattle.lists.specs.Rows.{rows, flat}
 use Rattle.lists.specs.RowLaws.{Wide, rows-flat, length-flat}
@@ -110,7 +112,11 @@ module _ (m : Message) (t : T (messageFits bodyFits m)) where
       every-both (isKnown (m .stamp)) (recordFits bodyFits (m .screens)) (λ r. writable kind (lineFor r))
       (λ r k f. record-writable (m .screens) r f (m .stamp) k (house m t) (stamp-fits m t)) (m .records) (all-at (messageRules bodyFits m) 4 t) fitting
 
-  head-long : length (written headKind (headOf m)) ≡ headLong
+  pub records-writable : (r : Record) → r ∈ m .records → T (writable (recordKind (m .screens) (m .stamp)) (lineFor r))
+  unfolding kind
+  records-writable r i = every-at (λ x. writable kind (lineFor x)) (m .records) writables i
+
+  pub head-long : length (written headKind (headOf m)) ≡ headLong
   unfolding headKind
   head-long = length-written headKind (headOf m) (head-writable m t)
 
@@ -187,7 +193,7 @@ module _ (m : Message) (t : T (messageFits bodyFits m)) where
       both (readable headKind (take headLong (bytesOf m))) (eqb (length (bytesOf m)) (headLong + countIn (bytesOf m) * recordLong) && inOrder (kindIn (bytesOf m)) (recordParts (bytesOf m)))
       (subst (λ (l : List ℕ). T (readable headKind l)) (sym take-head) (read-written headKind lawful-head (headOf m) (head-writable m t) .0))
       (both (eqb (length (bytesOf m)) (headLong + countIn (bytesOf m) * recordLong)) (inOrder (kindIn (bytesOf m)) (recordParts (bytesOf m)))
-      (subst (λ (n : ℕ). T (eqb (length (bytesOf m)) n)) (length-bytes-of ∙ ap (λ (n : ℕ). headLong + n * recordLong) (sym count-back)) (eqb-refl (length (bytesOf m))))
+      (eq→eqb (length (bytesOf m)) (headLong + countIn (bytesOf m) * recordLong) (length-bytes-of ∙ ap (λ (n : ℕ). headLong + n * recordLong) (sym count-back)))
       (subst T (ap₂ inOrder (sym kind-back) (sym parts-back)) ordered))
 
 -- every element of a writing is a byte

@@ -4,19 +4,15 @@
 use Prim.Native.Nat.{ℕ, _+_, _≤_, _<_}
 use native.Mathlib.Omega.{arith}
 use mathlib.Core.Path.{_≡_, refl, ap}
-use mathlib.Core.Bool.{Bool, false}
 use mathlib.Core.List.{List, [], _∷_, _++_}
 use lib.Dec.{T, ltb, eqb}
 use lib.ListN.{length}
 use borrow.Author.Tests.{lt-ltb, le-ltb, eq-eqb, ne-eqb}
-use Rattle.lists.specs.Facts.{either, bit, _∈_, here, there, and-l, and-r, every-at, keep-length}
+use Rattle.lists.specs.Facts.{either, bit, _∈_, keep-none, keep-length}
 use Rattle.lists.specs.Order.{keyBefore, rising}
 use Rattle.lists.specs.Scan.{le-or-lt}
-use Rattle.lists.specs.Tests.{every, keep}
-
-keep-none : {A : Type 0} (p : A → Bool) (xs : List A) → ((x : A) → x ∈ xs → p x ≡ false) → keep p xs ≡ []
-keep-none p [] f = refl
-keep-none p (x ∷ xs) f = rw (f x here) (keep-none p xs (λ y m. f y (there m)))
+use Rattle.lists.specs.Sorted.{head-before, tail-rising}
+use Rattle.lists.specs.Tests.{keep}
 
 bits : (x o : ℕ) → bit (ltb x (o + 1)) ≡ bit (ltb x o) + bit (eqb x o)
 bits x o =
@@ -34,10 +30,10 @@ module _ {A : Type 0} (f : A → ℕ) (o : ℕ) where
   module _ (key : A → List ℕ) (climbs : (x y : A) → T (keyBefore (key x) (key y)) → f x ≤ f y) where
     pub one-run : (xs : List A) → T (rising key xs) → keep (λ x. ltb (f x) o) xs ++ (keep (λ x. eqb (f x) o) xs ++ keep (λ x. ltb o (f x)) xs) ≡ xs
     one-run [] t = refl
-    one-run (x ∷ xs) t = split (one-run xs (and-r (every (λ y. keyBefore (key x) (key y)) xs) (rising key xs) t))
+    one-run (x ∷ xs) t = split (one-run xs (tail-rising key x xs t))
       where
         above : (y : A) → y ∈ xs → f x ≤ f y
-        above y m = climbs x y (every-at (λ z. keyBefore (key x) (key z)) xs (and-l (every (λ z. keyBefore (key x) (key z)) xs) (rising key xs) t) m)
+        above y m = climbs x y (head-before key x xs t m)
 
         none-lower : o ≤ f x → keep (λ y. ltb (f y) o) xs ≡ []
         none-lower h = keep-none (λ y. ltb (f y) o) xs (λ y m. le-ltb (f y) o (omega (arith, above y m)))

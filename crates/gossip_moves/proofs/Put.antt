@@ -1,9 +1,9 @@
--- What each change of the words comes to, of the book that they hold: rows raised, new records put into the log. Assumes nothing.
+-- What each change of the words comes to, of the book that they hold: rows raised. Assumes nothing.
 use Prim.Native.Nat.{ℕ, zero, suc, _+_, _-_, _*_, _≤_, _<_}
 use native.Mathlib.Omega.{arith}
 use mathlib.Core.Path.{_≡_, sym, ap, ap₂, _∙_}
 use mathlib.Core.List.{List, [], _∷_, _++_, append-assoc}
-use lib.ListN.{length, getD, set, take, drop, replicate, length-set}
+use lib.ListN.{length, set, take, drop, replicate, length-set}
 use lib.Seq.{drop-at, take-append-add, drop-append-add, getD-set-other}
 use Rattle.lists.specs.Part.{mid, patch, length-mid, mid-mid}
 use Rattle.lists.specs.RowLaws.{Wide}
@@ -11,19 +11,13 @@ use Rattle.lists.specs.Rows.{flat}
 use Rattle.stamp.specs.Laws.{length-merge, merge-covered}
 use Rattle.stamp.specs.Limits.{parts}
 use Rattle.stamp.specs.Stamp.{Stamp, merge}
-use Rattle.ledger.specs.Limits.{most, logRoom}
-use Rattle.ledger.specs.Log.{gathered}
-use Rattle.ledger.specs.Record.{Record}
-use Rattle.log.specs.Region.{logWords}
-use Rattle.log_moves.specs.Merge.{Fresh, merged}
-use Rattle.log_moves.specs.MergeLaws.{length-gathered}
-use Rattle.log_moves.specs.WordLaws.{merged-words}
+use Rattle.ledger.specs.Limits.{most}
 use Rattle.meaning.specs.Book.{Book, row, known}
-use Rattle.layout.specs.Held.{Held, put-table, put-log}
-use Rattle.layout.specs.With.{withTable, withLog}
-use Rattle.layout.specs.Words.{tableWords, pieces, bookOf, wordsOf}
-use Rattle.layout.specs.WordsLaws.{Shape, piece-back}
-use Rattle.moves.specs.Places.{held-is, book-is, held-long, screens-most, row-words, log-count}
+use Rattle.layout.specs.Held.{Held, table-words, put-table}
+use Rattle.layout.specs.With.{withTable}
+use Rattle.layout.specs.Words.{tableWords, bookOf, wordsOf}
+use Rattle.layout.specs.WordsLaws.{Shape}
+use Rattle.moves.specs.Places.{held-is, book-is, held-long, screens-most, row-words}
 use Rattle.gossip_moves.specs.Taken.{rowMerged, raisedRows, Raisable}
 
 -- one row of eight put among rows that are laid out one after the other
@@ -56,10 +50,6 @@ module _ (ws : List ℕ) (h : Held ws) (j : ℕ) (m : Stamp) (l : j < (bookOf ws
   unfolding parts
   wide = h .shape .rows-wide
 
-  table-words : mid 4 64 ws ≡ tableWords ((bookOf ws) .table)
-  unfolding pieces
-  table-words = ap (mid 4 64) (sym (h .words)) ∙ piece-back (bookOf ws) (h .shape) 1 (omega arith)
-
   few : j * 8 + 8 ≤ 64
   unfolding bookOf
   few = omega (arith, screens-most ws h)
@@ -71,7 +61,7 @@ module _ (ws : List ℕ) (h : Held ws) (j : ℕ) (m : Stamp) (l : j < (bookOf ws
   unfolding rowMerged
   row-raised =
       let region : patch (j * 8) 8 (mid 4 64 ws) (merge (mid (j * 8) 8 (mid 4 64 ws)) m) ≡ tableWords (set ((bookOf ws) .table) j raised) =
-      ap₂ (λ (t : List ℕ) (v : Stamp). patch (j * 8) 8 t (merge v m)) table-words row-there ∙ table-set ((bookOf ws) .table) j raised wide (omega (arith, h .shape .rows-long)) in
+      ap₂ (λ (t : List ℕ) (v : Stamp). patch (j * 8) 8 t (merge v m)) (table-words ws h) row-there ∙ table-set ((bookOf ws) .table) j raised wide (omega (arith, h .shape .rows-long)) in
       ap₂ (λ (x y : List ℕ). patch 4 64 x y) (sym (h .words)) region ∙ put-table (bookOf ws) (h .shape) (set ((bookOf ws) .table) j raised)
 
   eight : length (row (bookOf ws) j) ≡ 8
@@ -119,23 +109,3 @@ module _ (ws : List ℕ) (h : Held ws) (j : ℕ) (m : Stamp) (k : Raisable (book
   rows-raised =
       ap (λ (b : Book). wordsOf (withTable (set (b .table) ((bookOf ws) .me) (merge (row b ((bookOf ws) .me)) m)) b)) first
       ∙ ap₂ (λ (x y : Stamp). wordsOf (withTable (set (set ((bookOf ws) .table) j x) ((bookOf ws) .me) (merge y m)) (bookOf ws))) set-to own-still
-
--- new records in the log
-module _ (ws : List ℕ) (h : Held ws) (new : List Record) (fresh : Fresh new ((bookOf ws) .log)) (n : ℕ) (e : n ≡ length new) (room : length ((bookOf ws) .log) + n ≤ logRoom) where
-  log-words : mid 76 2816 ws ≡ logWords logRoom ((bookOf ws) .log)
-  unfolding pieces
-  log-words = ap (mid 76 2816) (sym (h .words)) ∙ piece-back (bookOf ws) (h .shape) 3 (omega arith)
-
-  in-room : length ((bookOf ws) .log) + length new ≤ logRoom
-  in-room = omega (arith, room, e)
-
-  pub log-taken : set (patch 76 2816 ws (merged new (getD ws 2 0) n (mid 76 2816 ws))) 2 (getD ws 2 0 + n) ≡ wordsOf (withLog (gathered new ((bookOf ws) .log)) (bookOf ws))
-  log-taken =
-      let b = bookOf ws in
-      let rs = gathered new (b .log) in
-      let region : merged new (getD ws 2 0) n (mid 76 2816 ws) ≡ logWords logRoom rs =
-      ap₂ (λ (k : ℕ) (r : List ℕ). merged new k n r) (log-count ws h) log-words ∙ ap (λ (k : ℕ). merged new (length (b .log)) k (logWords logRoom (b .log))) e ∙ merged-words logRoom (b .log) (h .shape .log-eight) new fresh in-room in
-      let number : getD ws 2 0 + n ≡ length rs = omega (arith, log-count ws h, e, length-gathered new (b .log) fresh) in
-      ap₂ (λ (x : List ℕ) (k : ℕ). set (patch 76 2816 ws x) 2 k) region number
-      ∙ ap (λ (r : List ℕ). set (patch 76 2816 r (logWords logRoom rs)) 2 (length rs)) (sym (h .words))
-      ∙ put-log b (h .shape) rs

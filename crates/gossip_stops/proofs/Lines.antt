@@ -7,16 +7,14 @@ use mathlib.Core.Bool.{true, false}
 use mathlib.Core.List.{List}
 use borrow.Author.Tests.{lt-ltb, le-ltb, eq-eqb, ne-eqb}
 use lib.Dec.{T, ltb}
-use lib.ListN.{length, getD}
-use lib.Seq.{take-all}
-use Rattle.lists.specs.Facts.{all-at}
+use lib.ListN.{getD}
 use Rattle.lists.specs.Part.{mid}
 use Rattle.lists.specs.Tests.{every}
-use Rattle.stamp.specs.Laws.{fits, fits-test, fits-merge}
-use Rattle.stamp.specs.Limits.{parts, word}
+use Rattle.stamp.specs.Laws.{fits, fits-words, fits-test, fits-merge}
+use Rattle.stamp.specs.Limits.{word}
 use Rattle.stamp.specs.Parts.{partsAt, listOf}
 use Rattle.stamp.specs.PartsLaws.{list-parts}
-use Rattle.stamp.specs.Stamp.{Stamp, part, atMost, merge, total, stampRules, stampFits}
+use Rattle.stamp.specs.Stamp.{Stamp, part, atMost, merge, total, stampFits}
 use Rattle.ledger.specs.Limits.{bookRoom}
 use Rattle.meaning.specs.Book.{Book, row, known}
 use Rattle.meaning.specs.BookLaws.{known-fits}
@@ -25,17 +23,6 @@ use Rattle.layout.specs.SoundWords.{lawful-sound}
 use Rattle.layout.specs.Words.{bookOf, lawful}
 use Rattle.moves.specs.Places.{held-long, screens-most, row-words}
 use Rattle.gossip_stops.specs.Refusals.{unless, rowRefusal, ownRefusal, stampRefusal}
-
--- a stamp read into a value and listed again
-pub whole-stamp : (s : Stamp) → length s ≡ 8 → listOf (partsAt 0 s) ≡ s
-whole-stamp s e =
-    let l : 0 + 8 ≤ length s = omega arith in
-    let m : length s ≤ 8 = omega arith in
-    list-parts 0 s l ∙ take-all 8 s m
-
-pub eight-parts : (n : ℕ) (s : Stamp) → T (stampFits n s) → length s ≡ 8
-unfolding parts
-eight-parts n s t = fits n s t .long
 
 -- the two first words of a book
 pub me-word : (ws : List ℕ) → (bookOf ws) .me ≡ getD ws 0 0
@@ -52,11 +39,10 @@ row-read ws h j l = list-parts (4 + j * 8) ws (omega (arith, held-long ws h, scr
 
 -- the merged stamp's parts are words
 pub merged-words : (ws : List ℕ) → T (lawful ws) → (m : Stamp) → T (stampFits ((bookOf ws) .screens) m) → T (every (λ x. ltb x word) (merge (known (bookOf ws)) m))
-unfolding stampFits
 merged-words ws h m f =
     let n = (bookOf ws) .screens in
     let s = merge (known (bookOf ws)) m in
-    all-at (stampRules n s) 1 (fits-test n s (fits-merge n (known (bookOf ws)) m (known-fits (bookOf ws) (lawful-sound ws h)) (fits n m f)))
+    fits-words n s (fits-test n s (fits-merge n (known (bookOf ws)) m (known-fits (bookOf ws) (lawful-sound ws h)) (fits n m f)))
 
 module _ (s m : Stamp) where
   pub row-old : atMost m s ≡ true → 4 ≡ rowRefusal s m

@@ -5,34 +5,25 @@ use mathlib.Core.Path.{_≡_, refl, sym, ap, ap₂, subst, _∙_}
 use mathlib.Core.Logic.{_≢_}
 use mathlib.Core.List.{List, []}
 use lib.Dec.{T}
-use lib.ListN.{length, getD, set}
-use Rattle.lists.specs.Facts.{either, every-from}
-use Rattle.lists.specs.MoreFacts.{eq→eqb}
-use Rattle.lists.specs.Tests.{every}
+use lib.ListN.{length, getD}
 use Rattle.stamp.specs.Laws.{Covers, fits, parts-atMost}
 use Rattle.stamp.specs.Limits.{parts}
-use Rattle.stamp.specs.Stamp.{Stamp, part, merge}
-use Rattle.tally.specs.Tap.{bodyFits}
+use Rattle.stamp.specs.Stamp.{Stamp, merge}
 use Rattle.ledger.specs.Limits.{logRoom}
 use Rattle.ledger.specs.Log.{newlyApplied, gathered, unknowns}
-use Rattle.ledger.specs.LogLaws.{put-log, same-place}
 use Rattle.ledger.specs.Record.{Record}
-use Rattle.ledger.specs.RecordLaws.{obeys}
-use Rattle.log.specs.RegionLaws.{eightParts}
 use Rattle.log_moves.specs.Merge.{Fresh}
-use Rattle.log_moves.specs.MergeLaws.{length-gathered, every-gathered}
 use Rattle.gossip.specs.Message.{recordsIn, messageOf}
 use Rattle.meaning.specs.Book.{Book, row, known}
 use Rattle.meaning.specs.BookLaws.{Sound, me-in}
 use Rattle.meaning.specs.SettleLaws as meaning
-use Rattle.meaning.specs.SettleLaws.{settle-sound}
-use Rattle.meaning.specs.Step.{nowApplied, nowCounted, settle, newOnes, gossipRows}
+use Rattle.meaning.specs.Step.{nowApplied, settle, newOnes, gossipRows}
 use Rattle.meaning.specs.StepLaws.{GossipDone, gossip-now, gossip-ready}
 use Rattle.layout.specs.Held.{Held}
-use Rattle.layout.specs.SoundWords.{sound-shape, lawful-sound, lawful-held}
+use Rattle.layout.specs.SoundWords.{lawful-sound, lawful-held}
 use Rattle.layout.specs.With.{withTable, withLog}
 use Rattle.layout.specs.Words.{bookOf, wordsOf, lawful}
-use Rattle.layout.specs.WordsLaws.{Shape}
+use Rattle.moves.specs.InPlace.{new-fresh, rows-shape, log-shape, in-place-ready}
 use Rattle.moves.specs.Moves.{settled}
 use Rattle.moves.specs.MovesLaws.{settle-is}
 use Rattle.moves.specs.Places.{held-is, book-is, known-long}
@@ -41,69 +32,9 @@ use Rattle.gossip_moves.specs.Taken.{raisedRows, Raisable, Coming}
 use Rattle.gossiping.specs.Heard.{Heard}
 use Rattle.gossiping.proofs.Message.{sender-is, stamp-is, sender-in, stamp-in, screens-is, records-are}
 
--- a sound book with rows and new records that are ready: the shape that its words need on the way, and what putting it in order asks
-module _ (b : Book) (s : Sound b) (rows : List Stamp) (new : List Record) (y : meaning.Ready b rows new) where
-  pub fresh : Fresh new (b .log)
-  fresh =
-      record {
-        order = y .order;
-        sorted = s .log-order;
-        apart = λ x r m k e. let p = same-place x r e in omega (arith, y .above x m, s .log-known r k, p .1, ap (λ (i : ℕ). part (known b) i) (p .0));
-      }
-
-  after : Shape (settle b rows new)
-  after = sound-shape (settle b rows new) (settle-sound b rows new s y)
-
-  pub rows-shape : Shape (withTable rows b)
-  unfolding settle
-  rows-shape =
-      let p = sound-shape b s in
-      record {
-        rows-long = y .rows-long;
-        screens-few = p .screens-few;
-        rows-wide = after .rows-wide;
-        value-long = p .value-long;
-        log-few = p .log-few;
-        log-eight = p .log-eight;
-        counted-few = p .counted-few;
-        counted-fit = p .counted-fit;
-        prompts-long = p .prompts-long;
-      }
-
-  new-eight : T (every eightParts new)
-  unfolding eightParts parts
-  new-eight = every-from eightParts new (λ r m. eq→eqb (length (r .label)) 8 (obeys bodyFits (b .screens) r (y .obey r m) .label-fits .long))
-
-  pub new-shape : Shape (withLog (gathered new (b .log)) (withTable rows b))
-  new-shape =
-      let p = rows-shape in
-      record {
-        rows-long = p .rows-long;
-        screens-few = p .screens-few;
-        rows-wide = p .rows-wide;
-        value-long = p .value-long;
-        log-few = omega (arith, length-gathered new (b .log) fresh, y .space);
-        log-eight = every-gathered eightParts new (b .log) new-eight (p .log-eight);
-        counted-few = p .counted-few;
-        counted-fit = p .counted-fit;
-        prompts-long = p .prompts-long;
-      }
-
-  pub known-after : known (withLog (gathered new (b .log)) (withTable rows b)) ≡ getD rows (b .me) []
-  unfolding known row
-  known-after = refl
-
-  pub new-ready : Ready (known b) (known (withLog (gathered new (b .log)) (withTable rows b))) (withLog (gathered new (b .log)) (withTable rows b))
-  unfolding settle nowCounted nowApplied known row
-  new-ready =
-      let t = settle-sound b rows new s y in
-      record {
-        shape = new-shape;
-        order = s .counted-order;
-        follow = s .follow;
-        obey = λ r m. either (put-log new (b .log) .from r m) (λ k. y .obey r k) (λ k. s .log-obeys r k);
-        room = omega (arith, t .few, t .book-room);
-      }
+known-after : (b : Book) (rows : List Stamp) (new : List Record) → known (withLog (gathered new (b .log)) (withTable rows b)) ≡ getD rows (b .me) []
+unfolding known row
+known-after b rows new = refl
 
 -- a gossip that nothing stops
 module _ (ws bytes : List ℕ) (j n count : ℕ) (m : Stamp) (w : T (lawful ws)) (h : Heard bytes j n count m) (d : GossipDone (bookOf ws) (messageOf bytes)) where
@@ -143,10 +74,10 @@ module _ (ws bytes : List ℕ) (j n count : ℕ) (m : Stamp) (w : T (lawful ws))
     rows-words = e ∙ ap (λ (y : List Stamp). wordsOf (withTable y b)) (ap (raisedRows b j) o ∙ rows-are)
 
     rows-held : Held vs
-    rows-held = held-is vs (withTable rows b) (rows-shape b sound-now rows new ready) rows-words
+    rows-held = held-is vs (withTable rows b) (rows-shape b rows new sound-now ready) rows-words
 
     rows-book : bookOf vs ≡ withTable rows b
-    rows-book = book-is vs (withTable rows b) (rows-shape b sound-now rows new ready) rows-words
+    rows-book = book-is vs (withTable rows b) (rows-shape b rows new sound-now ready) rows-words
 
     -- the new records come
     module _ (before : Stamp) (q : before ≡ known (bookOf ws)) (k : ℕ) (u : k ≡ length (newOnes (bookOf ws) (messageOf bytes))) where
@@ -158,7 +89,7 @@ module _ (ws bytes : List ℕ) (j n count : ℕ) (m : Stamp) (w : T (lawful ws))
       coming = record { head = h .head; number = h .number; new-number = u ∙ ap length (sym new-are) }
 
       still-fresh : Fresh (unknowns before (recordsIn bytes)) ((bookOf vs) .log)
-      still-fresh = rw (new-are, rows-book) (fresh b sound-now rows new ready)
+      still-fresh = rw (new-are, rows-book) (new-fresh b rows new sound-now ready)
 
       in-room : length ((bookOf vs) .log) + k ≤ logRoom
       in-room = omega (arith, ap (λ (x : Book). length (x .log)) rows-book, u, d .room)
@@ -171,10 +102,10 @@ module _ (ws bytes : List ℕ) (j n count : ℕ) (m : Stamp) (w : T (lawful ws))
         new-words = f ∙ ap₂ (λ (x : List Record) (y : Book). wordsOf (withLog (gathered x (y .log)) y)) new-are rows-book
 
         new-held : Held us
-        new-held = held-is us (withLog (gathered new (b .log)) (withTable rows b)) (new-shape b sound-now rows new ready) new-words
+        new-held = held-is us (withLog (gathered new (b .log)) (withTable rows b)) (log-shape b rows new sound-now ready) new-words
 
         new-book : bookOf us ≡ withLog (gathered new (b .log)) (withTable rows b)
-        new-book = book-is us (withLog (gathered new (b .log)) (withTable rows b)) (new-shape b sound-now rows new ready) new-words
+        new-book = book-is us (withLog (gathered new (b .log)) (withTable rows b)) (log-shape b rows new sound-now ready) new-words
 
         still-me : (bookOf us) .me < (bookOf us) .screens
         still-me = subst (λ (x : Book). x .me < x .screens) (sym new-book) (me-in b sound-now)
@@ -183,7 +114,7 @@ module _ (ws bytes : List ℕ) (j n count : ℕ) (m : Stamp) (w : T (lawful ws))
         before-long = ap length q ∙ known-long ws (lawful-held ws w) (me-in b sound-now)
 
         all-ready : Ready before (known (bookOf us)) (bookOf us)
-        all-ready = rw (q, new-book) (new-ready b sound-now rows new ready)
+        all-ready = rw (q, new-book) (in-place-ready b rows new sound-now ready)
 
         pub new-gives : Held us × (((bookOf us) .me < (bookOf us) .screens) × ((length before ≡ 8) × Ready before (known (bookOf us)) (bookOf us)))
         new-gives = (new-held, (still-me, (before-long, all-ready)))
@@ -197,7 +128,7 @@ module _ (ws bytes : List ℕ) (j n count : ℕ) (m : Stamp) (w : T (lawful ws))
         unfolding nowApplied
         number-applied =
             ap₂ (λ (x : Stamp) (y : Book). length (newlyApplied x (known y) (y .log))) q new-book
-            ∙ ap (λ (x : Stamp). length (newlyApplied (known b) x (gathered new (b .log)))) (known-after b sound-now rows new ready ∙ gossip-now b (messageOf bytes) d)
+            ∙ ap (λ (x : Stamp). length (newlyApplied (known b) x (gathered new (b .log)))) (known-after b rows new ∙ gossip-now b (messageOf bytes) d)
 
         pub settled-is :
             (wordsOf (settled before (bookOf us)) ≡ wordsOf (settle (bookOf ws) (gossipRows (bookOf ws) (messageOf bytes)) (newOnes (bookOf ws) (messageOf bytes))))

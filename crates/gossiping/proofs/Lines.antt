@@ -1,7 +1,7 @@
 -- What each return of the gossip owes: a refusal by the stamp, one by the records, or the whole step. Assumes nothing.
 use Prim.Native.Nat.{ℕ, suc, _+_, _≤_, _<_}
 use native.Mathlib.Omega.{arith}
-use mathlib.Core.Path.{_≡_, refl, sym, ap, ap₂, _∙_}
+use mathlib.Core.Path.{_≡_, refl, sym, ap₂, _∙_}
 use mathlib.Core.Logic.{_≢_}
 use mathlib.Core.Bool.{Bool, true, false}
 use mathlib.Core.List.{List}
@@ -17,24 +17,18 @@ use Rattle.gossip.specs.Message.{recordsIn, messageOf}
 use Rattle.meaning.specs.Book.{known, sound}
 use Rattle.meaning.specs.BookLaws.{at-sound}
 use Rattle.meaning.specs.Reply.{refusal, gossiped}
-use Rattle.meaning.specs.Step.{Outcome, nowApplied, settle, newOnes, gossipRows, gossipStep}
+use Rattle.meaning.specs.Step.{nowApplied, settle, newOnes, gossipRows, gossipStep}
 use Rattle.meaning.specs.StepLaws.{GossipDone, gossip-out}
 use Rattle.layout.specs.SoundWords.{lawful-sound, lawful-held}
 use Rattle.layout.specs.Words.{bookOf, wordsOf, lawful}
 use Rattle.moves.specs.Places.{log-count}
 use Rattle.answers.specs.Lent.{Promise}
-use Rattle.answers.specs.LentLaws.{lentOf}
-use Rattle.answers.specs.Spoken.{spoken}
-use Rattle.answers.specs.declared.Reply as answer
+use Rattle.answers.specs.LentLaws.{lentOf, owes}
 use Rattle.answers.specs.declared.Reply.the-variants as says
 use Rattle.gossip_stops.specs.Refusals.{stampRefusal, recordRefusal}
 use Rattle.gossip_stops.specs.RefusalLaws.{stamp-stops, records-stop, unstopped, same-house}
 use Rattle.gossiping.specs.Heard.{Heard}
 use Rattle.gossiping.proofs.Message.{sender-is, screens-is, stamp-is, message-fits, records-are}
-
--- an outcome that is settled
-owes : (o p : Outcome) (r : answer.Reply) (ws : List ℕ) → o ≡ p → spoken r ≡ p .reply → ws ≡ wordsOf (p .book) → Promise (lentOf o) r ws
-owes o p r ws e a w = record { answers = a ∙ ap (λ (x : Outcome). x .reply) (sym e); leaves = w ∙ ap (λ (x : Outcome). wordsOf (x .book)) (sym e) }
 
 module _ (ws bytes : List ℕ) (j n count : ℕ) (m : Stamp) (w : T (lawful ws)) (h : Heard bytes j n count m) where
   sound-now : T (sound (bookOf ws))

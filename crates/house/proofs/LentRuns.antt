@@ -30,13 +30,13 @@ use Rattle.meaning.specs.Reply.{Reply, refusal, permits}
 use Rattle.meaning.specs.Step.{Outcome, openStops, tapStep, newRecord, ask, send, gossipStep}
 use Rattle.layout.specs.SoundWords.{sound-lawful}
 use Rattle.layout.specs.Words.{bookLong, bookOf, wordsOf, lawful}
-use Rattle.answers.specs.Lent.{Lent, hearTap, tapOn, questionOn, gossipOn, putFront, sendOn, openOr, openOn}
+use Rattle.answers.specs.Lent.{Lent, hearTap, tapOn, promptIn, labelIn, questionOn, gossipOn, putFront, sendOn, openOr, openOn}
 use Rattle.answers.specs.LentLaws.{lentOf, book-back, tap-on, question-on, gossip-on, send-on, question-keeps}
 use Rattle.house.specs.Consent.{answerAt, Consent}
 use Rattle.house.specs.Demand.{Answered, Demand}
 use Rattle.house.specs.House.{House, openHouse, put, grown, afterTap, afterSend, afterGossip, Step, Run}
 use Rattle.house.specs.House as books
-use Rattle.house.specs.LentHouse.{LentHouse, openLent, recordFor, lentTap, lentQuestion, lentSend, lentGossip, LentStep, tap, question, sends, arrives, LentRun, opened, onward, held, promptIn, labelIn, LentDemand}
+use Rattle.house.specs.LentHouse.{LentHouse, openLent, recordFor, lentTap, lentQuestion, lentSend, lentGossip, LentStep, tap, question, sends, arrives, LentRun, opened, onward, held, LentDemand}
 use Rattle.house.proofs.Consent.{no-refused-consent}
 use Rattle.house.proofs.Demand.{third-demand}
 use Rattle.house.proofs.Invariant.{put-either}

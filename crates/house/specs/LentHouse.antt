@@ -6,18 +6,17 @@ use mathlib.Core.Logic.{_⊎_}
 use mathlib.Core.Bool.{cond}
 use mathlib.Core.List.{List, [], _∷_, map, List·Memᴰ}
 use lib.Dec.{T, ltb}
-use lib.ListN.{length, getD, take}
-use Rattle.stamp.specs.Stamp.{Stamp}
+use lib.ListN.{length, take}
 use Rattle.ledger.specs.Record.{Record}
-use Rattle.wire.specs.Kinds.{tapKind, questionKind, tapAt, stampAt}
+use Rattle.wire.specs.Kinds.{tapKind, tapAt, stampAt}
 use Rattle.wire.specs.Read.{lineOf}
 use Rattle.wire.specs.declared.Written.the-variants.{Wrote}
 use Rattle.gossip.specs.Message.{messageOf}
 use Rattle.meaning.specs.Book.{fresh}
-use Rattle.meaning.specs.Reply.{Reply, permits}
+use Rattle.meaning.specs.Reply.{permits}
 use Rattle.meaning.specs.Step.{newRecord}
 use Rattle.layout.specs.Words.{bookLong, bookOf, lawful}
-use Rattle.answers.specs.Lent.{tapOn, questionOn, gossipOn, sendOn, openOn}
+use Rattle.answers.specs.Lent.{tapOn, promptIn, labelIn, questionOn, gossipOn, sendOn, openOn}
 use Rattle.house.specs.Consent.{answerAt, Consent}
 use Rattle.house.specs.Demand.{Answered, Demand}
 use Rattle.house.specs.House.{House, put, grown, Step}
@@ -69,13 +68,6 @@ pub data LentRun (n : ℕ) : LentHouse → Type 0 where
 -- the house of books that the slices hold
 unfoldable pub held : ℕ → LentHouse → House
 held n h = record { book = λ i. cond (ltb i n) (bookOf (h .words i)) (fresh i n); sent = map messageOf (h .sent); history = h .history }
-
--- the prompt and the label that a question's bytes hold
-abbrev pub promptIn : List ℕ → List ℕ → ℕ
-promptIn ws bytes = getD (lineOf (questionKind (bookOf ws .screens)) bytes) 1 0
-
-abbrev pub labelIn : List ℕ → List ℕ → Stamp
-labelIn ws bytes = stampAt 2 (lineOf (questionKind (bookOf ws .screens)) bytes)
 
 pub record LentDemand (n : ℕ) (h : LentHouse) : Type 0 where
   -- the third demand, sentence by sentence, of the books that the slices hold

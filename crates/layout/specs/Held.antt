@@ -1,10 +1,10 @@
 -- Laws: words that hold a book, and what changing one piece of them does to the book. Assumes nothing.
 use Prim.Native.Nat.{ℕ, _<_}
 use native.Mathlib.Omega.{arith}
-use mathlib.Core.Path.{_≡_, sym, ap, subst}
+use mathlib.Core.Path.{_≡_, sym, ap, subst, _∙_}
 use mathlib.Core.List.{List}
 use lib.ListN.{length, getD, set, take}
-use Rattle.lists.specs.Part.{patch}
+use Rattle.lists.specs.Part.{mid, patch}
 use Rattle.lists.specs.Pieces.{sumOf, piece-put}
 use Rattle.lists.specs.Rows.{flat}
 use Rattle.stamp.specs.Stamp.{Stamp}
@@ -16,8 +16,8 @@ use Rattle.log.specs.Region.{logWords}
 use Rattle.counted.specs.Region.{tapWords}
 use Rattle.prompts.specs.Region.{standingWords}
 use Rattle.meaning.specs.Book.{Book}
-use Rattle.layout.specs.Words.{sizes, piece, tableWords, pieces, wordsOf, bookOf}
-use Rattle.layout.specs.WordsLaws.{Shape, pieces-long, book-words}
+use Rattle.layout.specs.Words.{sizes, tableWords, pieces, wordsOf, bookOf}
+use Rattle.layout.specs.WordsLaws.{Shape, pieces-long, piece-back, book-words}
 use Rattle.layout.specs.With.{withTable, withValue, withLog, withCounted, withPrompts}
 
 -- the words are those of a book of the right shape
@@ -27,6 +27,20 @@ pub record Held (ws : List ℕ) : Type 0 where
 
 pub held-words : (b : Book) → Shape b → Held (wordsOf b)
 held-words b s = record { shape = subst Shape (sym (book-words b s)) s; words = ap wordsOf (book-words b s) }
+
+-- the pieces of the words
+module _ (ws : List ℕ) (h : Held ws) where
+  pub table-words : mid 4 64 ws ≡ tableWords ((bookOf ws) .table)
+  unfolding pieces
+  table-words = ap (mid 4 64) (sym (h .words)) ∙ piece-back (bookOf ws) (h .shape) 1 (omega arith)
+
+  pub log-words : mid 76 2816 ws ≡ logWords logRoom ((bookOf ws) .log)
+  unfolding pieces
+  log-words = ap (mid 76 2816) (sym (h .words)) ∙ piece-back (bookOf ws) (h .shape) 3 (omega arith)
+
+  pub counted-words : mid 2892 1024 ws ≡ tapWords bookRoom ((bookOf ws) .counted)
+  unfolding pieces
+  counted-words = ap (mid 2892 1024) (sym (h .words)) ∙ piece-back (bookOf ws) (h .shape) 4 (omega arith)
 
 -- the words of a book with one piece changed
 module _ (b : Book) (s : Shape b) where

@@ -1,11 +1,11 @@
 -- Laws: sound books have the shape that words need, so a sound lent slice is the words of a sound book. Assumes nothing.
-use Prim.Native.Nat.{ℕ, _≤_}
+use Prim.Native.Nat.{ℕ}
 use native.Mathlib.Omega.{arith}
 use mathlib.Core.Path.{sym, ap, subst, _∙_}
 use mathlib.Core.List.{List, [], _∷_}
-use lib.Dec.{T, leb, ltb, leb→le}
+use lib.Dec.{T}
 use lib.ListN.{length}
-use Rattle.lists.specs.Facts.{all-at, and-l, and-r, both, every-from}
+use Rattle.lists.specs.Facts.{_∈_, and-l, and-r, both, every-from}
 use Rattle.lists.specs.MoreFacts.{eq→eqb}
 use Rattle.lists.specs.RowLaws.{Wide}
 use Rattle.lists.specs.Tests.{every}
@@ -15,8 +15,8 @@ use Rattle.stamp.specs.Stamp.{Stamp, stampFits}
 use Rattle.tally.specs.StandingLaws.{afresh-length}
 use Rattle.tally.specs.Tap.{bodyFits}
 use Rattle.tally.specs.WordLaws.{fits-bits}
-use Rattle.ledger.specs.Limits.{fewest, most}
-use Rattle.ledger.specs.Message.{inRange}
+use Rattle.ledger.specs.LimitLaws.{range-most}
+use Rattle.ledger.specs.Record.{Record, recordFits}
 use Rattle.ledger.specs.RecordLaws.{obeys}
 use Rattle.log.specs.RegionLaws.{eightParts}
 use Rattle.meaning.specs.Book.{Book, sound}
@@ -30,13 +30,9 @@ unfolding Wide
 wide-fits n [] h = tt
 wide-fits n (s ∷ rs) h = (fits n s (and-l (stampFits n s) (every (stampFits n) rs) h) .long, wide-fits n rs (and-r (stampFits n s) (every (stampFits n) rs) h))
 
-range-most : (i n : ℕ) → T (inRange i n) → n ≤ most
-unfolding inRange
-range-most i n h = leb→le n most (all-at (leb fewest n ∷ leb n most ∷ ltb i n ∷ []) 1 h)
-
-eight : (b : Book) → Sound b → T (every eightParts (b .log))
+pub eight-each : (n : ℕ) (rs : List Record) → ((r : Record) → r ∈ rs → T (recordFits bodyFits n r)) → T (every eightParts rs)
 unfolding eightParts parts
-eight b s = every-from eightParts (b .log) (λ r m. eq→eqb (length (r .label)) 8 (obeys bodyFits (b .screens) r (s .log-obeys r m) .label-fits .long))
+eight-each n rs f = every-from eightParts rs (λ r m. eq→eqb (length (r .label)) 8 (obeys bodyFits n r (f r m) .label-fits .long))
 
 pub sound-shape : (b : Book) → Sound b → Shape b
 sound-shape b s =
@@ -46,7 +42,7 @@ sound-shape b s =
       rows-wide = wide-fits (b .screens) (b .table) (s .rows-fit);
       value-long = fits (b .screens) (b .value) (s .value-fits) .long;
       log-few = s .log-room;
-      log-eight = eight b s;
+      log-eight = eight-each (b .screens) (b .log) (s .log-obeys);
       counted-few = omega (arith, s .few, s .book-room);
       counted-fit = λ t m. fits-bits t (s .taps-fit t m);
       prompts-long = ap length (s .follow) ∙ afresh-length (b .counted);

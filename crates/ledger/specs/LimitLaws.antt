@@ -13,13 +13,16 @@ pub range-me : (i n : ℕ) → T (inRange i n) → i < n
 unfolding inRange
 range-me i n t = ltb→lt i n (all-at (leb fewest n ∷ leb n most ∷ ltb i n ∷ []) 2 t)
 
+pub range-most : (i n : ℕ) → T (inRange i n) → n ≤ most
+unfolding inRange
+range-most i n t = leb→le n most (all-at (leb fewest n ∷ leb n most ∷ ltb i n ∷ []) 1 t)
+
 most-parts : most ≤ parts
 unfolding most parts
 most-parts = omega arith
 
 pub range-parts : (i n : ℕ) → T (inRange i n) → n ≤ parts
-unfolding inRange
-range-parts i n t = omega (arith, most-parts, leb→le n most (all-at (leb fewest n ∷ leb n most ∷ ltb i n ∷ []) 1 t))
+range-parts i n t = omega (arith, most-parts, range-most i n t)
 
 pub range-from : (i n : ℕ) → fewest ≤ n → n ≤ most → i < n → T (inRange i n)
 unfolding inRange

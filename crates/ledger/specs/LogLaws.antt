@@ -7,10 +7,10 @@ use mathlib.Core.Bool.{not, _&&_, Bool, true, false, _||_}
 use mathlib.Core.List.{List, [], _∷_, List·Memᴰ·cases-cons}
 use lib.Dec.{T, ltb, ltb→lt, nltb→le, eqb}
 use lib.ListN.{getD, length}
-use Rattle.lists.specs.Facts.{there, here, _∈_, keep-mem, mem-keep, not-from, and-l, both, either, tell, keep-le, bit, keep-keep-le, keep-share, or-cases, allBelow-at, allBelow-from, or-l, or-r, and-r, every-at, none-in}
+use Rattle.lists.specs.Facts.{there, here, _∈_, keep-mem, mem-keep, not-from, and-l, both, either, tell, keep-le, bit, keep-keep-le, keep-share, or-cases, allBelow-at, allBelow-from, or-l, or-r, and-r, none-in}
 use Rattle.lists.specs.Order.{rising, keyBefore}
-use Rattle.lists.specs.Sorted.{Put, put-all, keep-rising}
-use Rattle.lists.specs.Tests.{keep, every, allBelow}
+use Rattle.lists.specs.Sorted.{Put, head-before, tail-rising, put-all, keep-rising}
+use Rattle.lists.specs.Tests.{keep, allBelow}
 use Rattle.stamp.specs.Laws.{Covers, total-mono, total-raised, part-either, part-merge, Fits, fits-merge}
 use Rattle.stamp.specs.Stamp.{Stamp, part, total, replace}
 use Rattle.ledger.specs.Log.{gathered, unknowns, newlyApplied, remaining, waitingIn, allHeld, gapless, mergeAll}
@@ -153,14 +153,14 @@ raise-total (x ∷ xs) s hi o f g c =
     omega (
       arith,
       total-raised s (x .origin) (x .number) (f x here),
-      raise-total xs (replace s (x .origin) (x .number)) hi (and-r (every (λ y. keyBefore (place x) (place y)) xs) (rising place xs) o)
+      raise-total xs (replace s (x .origin) (x .number)) hi (tail-rising place x xs o)
           (λ r m. either (part-either s (x .origin) (x .number) (r .origin)) (λ e. omega (arith, e .1, later r m (e .0))) (λ e. omega (arith, e, f r (there m))))
           (λ r m. g r (there m))
           (λ k. either (part-either s (x .origin) (x .number) k) (λ e. omega (arith, e .1, at k (e .0))) (λ e. omega (arith, e, c k))),
     )
   where
     later : (r : Record) → r ∈ xs → r .origin ≡ x .origin → x .number < r .number
-    later r m e = place-after x r (every-at (λ y. keyBefore (place x) (place y)) xs (and-l (every (λ y. keyBefore (place x) (place y)) xs) (rising place xs) o) m) e
+    later r m e = place-after x r (head-before place x xs o m) e
 
     at : (k : ℕ) → k ≡ x .origin → x .number ≤ part hi k
     at k e = subst (λ (j : ℕ). x .number ≤ part hi j) (sym e) (g x here)

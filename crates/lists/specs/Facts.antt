@@ -115,6 +115,10 @@ abbrev pub bit : Bool → ℕ
 bit true = 1
 bit false = 0
 
+pub bit-le : (c : Bool) → bit c ≤ 1
+bit-le true = omega arith
+bit-le false = omega arith
+
 module _ {A : Type 0} where
   pub here : {x : A} {xs : List A} → x ∈ x ∷ xs
   here = List·Memᴰ·head refl
@@ -165,6 +169,10 @@ module _ {A : Type 0} where
       go false e rec (inl q) = absurd (subst T (ap p q ∙ e) h)
       go false e rec (inr m′) = rec m′
 
+  pub keep-none : (p : A → Bool) (xs : List A) → ((x : A) → x ∈ xs → p x ≡ false) → keep p xs ≡ []
+  keep-none p [] f = refl
+  keep-none p (x ∷ xs) f = rw (f x here) (keep-none p xs (λ y m. f y (there m)))
+
   pub keep-length : (p : A → Bool) (x : A) (xs : List A) → length (keep p (x ∷ xs)) ≡ bit (p x) + length (keep p xs)
   keep-length p x xs = go (p x)
     where
@@ -175,10 +183,6 @@ module _ {A : Type 0} where
   pub keep-le : (p : A → Bool) (xs : List A) → length (keep p xs) ≤ length xs
   keep-le p [] = omega arith
   keep-le p (x ∷ xs) = omega (arith, keep-length p x xs, keep-le p xs, bit-le (p x))
-    where
-      bit-le : (c : Bool) → bit c ≤ 1
-      bit-le true = omega arith
-      bit-le false = omega arith
 
   pub keep-keep-le : (p q : A → Bool) (xs : List A) → length (keep p (keep q xs)) ≤ length (keep p xs)
   keep-keep-le p q [] = omega arith
@@ -237,17 +241,17 @@ every-place p [] d t u k = u
 every-place p (x ∷ xs) d t u zero = and-l (p x) (every p xs) t
 every-place p (x ∷ xs) d t u (suc k) = every-place p xs d (and-r (p x) (every p xs) t) u k
 
-place-every : {A : Type 0} (p : A → Bool) (xs : List A) (d : A) → ((k : ℕ) → k < length xs → T (p (getD xs k d))) → T (every p xs)
-place-every p [] d f = tt
-place-every p (x ∷ xs) d f = both (p x) (every p xs) (f 0 (omega arith)) (place-every p xs d (λ k h. f (suc k) (omega arith)))
+pub getD-in : {A : Type 0} (xs : List A) (k : ℕ) (d : A) → k < length xs → getD xs k d ∈ xs
+getD-in [] k d h = absurd (omega arith)
+getD-in (x ∷ xs) zero d h = here
+getD-in (x ∷ xs) (suc k) d h = there (getD-in xs k d (omega arith))
 
 pub every-getD : {A : Type 0} (p : A → Bool) (xs : List A) (d : A) → T (every p xs) → (k : ℕ) → k < length xs → T (p (getD xs k d))
-every-getD p [] d t k h = absurd (omega arith)
-every-getD p (x ∷ xs) d t zero h = and-l (p x) (every p xs) t
-every-getD p (x ∷ xs) d t (suc k) h = every-getD p xs d (and-r (p x) (every p xs) t) k (omega arith)
+every-getD p xs d t k h = every-at p xs t (getD-in xs k d h)
 
 pub getD-every : {A : Type 0} (p : A → Bool) (xs : List A) (d : A) → ((k : ℕ) → k < length xs → T (p (getD xs k d))) → T (every p xs)
-getD-every p xs d f = place-every p xs d f
+getD-every p [] d f = tt
+getD-every p (x ∷ xs) d f = both (p x) (every p xs) (f 0 (omega arith)) (getD-every p xs d (λ k h. f (suc k) (omega arith)))
 
 -- two tests that pass together are one
 pub same-test : (a b : Bool) → (T a → T b) → (T b → T a) → a ≡ b

@@ -10,7 +10,7 @@ use mathlib.Core.Option.{some, none}
 use lib.Dec.{eqb, T, eqb-refl, eqb→eq}
 use lib.ListN.{set, replicate, length, getD}
 use lib.Seq.{getD-set-same, getD-set-other}
-use Rattle.lists.specs.Facts.{either, tell, clash, bit, both, and-r, and-l, here, _∈_, there, is-true, is-false, keep-length, mem-keep, none-in, keep-mem, firstOf-some, every-at}
+use Rattle.lists.specs.Facts.{either, tell, clash, bit, bit-le, both, and-r, and-l, here, _∈_, there, is-true, is-false, keep-length, mem-keep, none-in, keep-mem, firstOf-some, every-at}
 use Rattle.lists.specs.Order.{insert, keyBefore}
 use Rattle.lists.specs.Sorted.{before-total}
 use Rattle.lists.specs.Tests.{every, allBelow, numbers, keep, firstOf}
@@ -20,10 +20,6 @@ eq→eqb a b e = subst (λ (x : ℕ). T (eqb a x)) e (eqb-refl a)
 
 pub same-or-not : (a b : ℕ) → (a ≡ b) ⊎ (a ≢ b)
 same-or-not a b = either (tell (eqb a b)) (λ t. inl (eqb→eq a b t)) (λ t. inr (λ e. clash (eqb a b) (eq→eqb a b e) t))
-
-pub bit-le : (c : Bool) → bit c ≤ 1
-bit-le true = omega arith
-bit-le false = omega arith
 
 -- two tests that never pass together
 pub bit-apart : (a c : Bool) → (T a → T c → ⊥) → bit a + bit c ≤ 1
@@ -41,16 +37,16 @@ pub every-replicate : {A : Type 0} (p : A → Bool) (n : ℕ) (a : A) → T (p a
 every-replicate p zero a t = tt
 every-replicate p (suc n) a t = both (p a) (every p (replicate n a)) t (every-replicate p n a t)
 
+pub regroup : (a b c d : Bool) → ((a && b) && (c && d)) ≡ ((a && c) && (b && d))
+regroup true true c d = refl
+regroup true false true d = refl
+regroup true false false d = refl
+regroup false b c d = refl
+
 -- two tests of all are one test of all, and a test may be told in other words
 pub every-and : {A : Type 0} (p q : A → Bool) (xs : List A) → every (λ x. p x && q x) xs ≡ (every p xs && every q xs)
 every-and p q [] = refl
-every-and p q (x ∷ xs) = ap (λ (b : Bool). (p x && q x) && b) (every-and p q xs) ∙ shuffle (p x) (q x) (every p xs) (every q xs)
-  where
-    shuffle : (a b c d : Bool) → ((a && b) && (c && d)) ≡ ((a && c) && (b && d))
-    shuffle true true c d = refl
-    shuffle true false true d = refl
-    shuffle true false false d = refl
-    shuffle false b c d = refl
+every-and p q (x ∷ xs) = ap (λ (b : Bool). (p x && q x) && b) (every-and p q xs) ∙ regroup (p x) (q x) (every p xs) (every q xs)
 
 pub every-same : {A : Type 0} (p q : A → Bool) (xs : List A) → ((x : A) → p x ≡ q x) → every p xs ≡ every q xs
 every-same p q [] f = refl

@@ -9,7 +9,7 @@ use lib.Dec.{T, ltb, eqb, ltb→lt, lt→ltb, eqb→eq, eqb-refl, nltb→le}
 use lib.ListN.{length}
 use Rattle.lists.specs.Tests.{every, keep}
 use Rattle.lists.specs.Order.{sameKey, keyBefore, rising, insert, insertAll}
-use Rattle.lists.specs.Facts.{_∈_, either, clash, and-l, and-r, both, or-cases, or-l, or-r, not-from, is-true, is-false, here, there, none-in, every-at, every-from, keep-mem, keep-length, bit}
+use Rattle.lists.specs.Facts.{_∈_, either, clash, and-l, and-r, both, or-cases, or-l, or-r, not-from, is-true, is-false, here, there, none-in, every-at, every-from, keep-mem, keep-length, bit-le}
 
 -- keys
 pub sameKey→≡ : (a b : List ℕ) → T (sameKey a b) → a ≡ b
@@ -77,10 +77,10 @@ module _ {A : Type 0} (key : A → List ℕ) where
     pub size : (p : A → Bool) → length (keep p out) ≤ length new + length (keep p old)
     pub long : length out ≤ length new + length old
 
-  head-before : (x : A) (xs : List A) → T (rising key (x ∷ xs)) → {z : A} → z ∈ xs → T (keyBefore (key x) (key z))
+  pub head-before : (x : A) (xs : List A) → T (rising key (x ∷ xs)) → {z : A} → z ∈ xs → T (keyBefore (key x) (key z))
   head-before x xs t m = every-at (λ y. keyBefore (key x) (key y)) xs (and-l (every (λ y. keyBefore (key x) (key y)) xs) (rising key xs) t) m
 
-  tail-rising : (x : A) (xs : List A) → T (rising key (x ∷ xs)) → T (rising key xs)
+  pub tail-rising : (x : A) (xs : List A) → T (rising key (x ∷ xs)) → T (rising key xs)
   tail-rising x xs t = and-r (every (λ y. keyBefore (key x) (key y)) xs) (rising key xs) t
 
   cons-rising : (x : A) (xs : List A) → ((z : A) → z ∈ xs → T (keyBefore (key x) (key z))) → T (rising key xs) → T (rising key (x ∷ xs))
@@ -93,19 +93,11 @@ module _ {A : Type 0} (key : A → List ℕ) where
         stays = λ z m. none-in m;
         has = λ z m. (z, m, refl);
         order = λ t. tt;
-        size = λ p. omega (arith, keep-length p x [], small (p x));
+        size = λ p. omega (arith, keep-length p x [], bit-le (p x));
         long = omega arith;
       }
-    where
-      small : (c : Bool) → bit c ≤ 1
-      small true = omega arith
-      small false = omega arith
   put-one x (y ∷ ys) = go (keyBefore (key x) (key y)) refl (keyBefore (key y) (key x)) refl (put-one x ys)
     where
-      small : (c : Bool) → bit c ≤ 1
-      small true = omega arith
-      small false = omega arith
-
       go :
           (c : Bool) → keyBefore (key x) (key y) ≡ c → (d : Bool) → keyBefore (key y) (key x) ≡ d → Put (x ∷ []) ys (insert key x ys)
           → Put (x ∷ []) (y ∷ ys) (cond c (x ∷ y ∷ ys) (cond d (y ∷ insert key x ys) (y ∷ ys)))
@@ -120,7 +112,7 @@ module _ {A : Type 0} (key : A → List ℕ) where
                 either (List·Memᴰ·cases-cons m) (λ q. subst (λ (w : A). T (keyBefore (key x) (key w))) (sym q) (subst T (sym e) tt))
                 (λ m′. before-trans (key x) (key y) (key z) (subst T (sym e) tt) (head-before y ys t m′)))
                 t;
-            size = λ p. omega (arith, keep-length p x (y ∷ ys), small (p x));
+            size = λ p. omega (arith, keep-length p x (y ∷ ys), bit-le (p x));
             long = omega arith;
           }
       go false e true e′ rec =

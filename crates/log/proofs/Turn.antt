@@ -17,7 +17,7 @@ use Rattle.lists.specs.Tests.{allBelow, every}
 use Rattle.lists.specs.Facts.{bit, either, keep-length}
 use Rattle.stamp.specs.Stamp.{Stamp, part}
 use Rattle.stamp.specs.Parts.{partsAt, listOf}
-use Rattle.stamp.specs.PartsLaws.{list-parts}
+use Rattle.stamp.specs.PartsLaws.{whole-stamp}
 use Rattle.ledger.specs.Log.{waitingIn}
 use Rattle.ledger.specs.Record.{Record, place, isWaiting}
 use Rattle.log.specs.Region.{rowLong, stampLong}
@@ -149,5 +149,4 @@ pub held-climb :
     (n : ℕ) (start end reached : Stamp) (rs : List Record) → T (rising place rs) → (length start ≡ stampLong) × (n ≤ stampLong) → reached ≡ climb (listOf (partsAt 0 start)) rs
     → allBelow n (λ k. leb (part end k) (part reached k)) ≡ holdsAll n start end rs
 held-climb n start end reached rs o h e =
-    let copy : listOf (partsAt 0 start) ≡ start = list-parts 0 start (omega arith) ∙ take-all stampLong start (omega arith) in
-    rw (e, copy) (sym (climb-holds n start end rs o (omega arith)))
+    rw (e, whole-stamp start (h .0)) (sym (climb-holds n start end rs o (omega arith)))

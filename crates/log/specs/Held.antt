@@ -14,10 +14,11 @@ use lib.ListN.{length, set, length-set}
 use lib.Seq.{getD-set-same, getD-set-other}
 use borrow.Author.Tests.{eq-eqb, ne-eqb}
 use Rattle.lists.specs.Scan.{le-or-lt}
-use Rattle.lists.specs.Tests.{allBelow, every}
-use Rattle.lists.specs.Order.{rising, keyBefore}
-use Rattle.lists.specs.Facts.{_∈_, here, either, and-l, and-r, or-cases, or-l, or-r, every-at, allBelow-at, allBelow-from, same-test}
+use Rattle.lists.specs.Tests.{allBelow}
+use Rattle.lists.specs.Order.{rising}
+use Rattle.lists.specs.Facts.{_∈_, here, either, or-cases, or-l, or-r, allBelow-at, allBelow-from, same-test}
 use Rattle.lists.specs.MoreFacts.{same-or-not, below-same}
+use Rattle.lists.specs.Sorted.{head-before, tail-rising}
 use Rattle.stamp.specs.Stamp.{Stamp, part}
 use Rattle.ledger.specs.Record.{Record, place, has}
 use Rattle.ledger.specs.RecordLaws.{has-at, has-from}
@@ -95,12 +96,12 @@ finds [] s k e h o f =
     either (le-or-lt e (part s k)) (λ l. l)
     (λ l. absurd (either (f (part s k) l) (λ t. none-has k (suc (part s k)) t) (λ t. omega arith)))
 finds (x ∷ xs) s k e h o f =
-    finds xs (climbed s x) k e (rw (length-set s (x .origin) (raised (part s (x .origin)) (x .number))) h) (and-r (every (λ y. keyBefore (place x) (place y)) xs) (rising place xs) o)
+    finds xs (climbed s x) k e (rw (length-set s (x .origin) (raised (part s (x .origin)) (x .number))) h) (tail-rising place x xs o)
     (λ q b. either (le-or-lt (suc q) (part (climbed s x) k)) (λ l. inr l) (λ l. above q b l (one-record s x k h)))
   where
     -- a later record of one origin has a larger number
     later : (r : Record) → r ∈ xs → r .origin ≡ x .origin → x .number < r .number
-    later r m c = place-after x r (every-at (λ y. keyBefore (place x) (place y)) xs (and-l (every (λ y. keyBefore (place x) (place y)) xs) (rising place xs) o) m) c
+    later r m c = place-after x r (head-before place x xs o m) c
 
     -- the next number is there, so x cannot have passed it
     passed : (q : ℕ) → q < e → x .origin ≡ k → x .number ≡ suc q → part s k < q → ⊥

@@ -185,7 +185,7 @@ pub fn rows_sound(
 }
 
 // Whether row a stands before row b: by origin, then number.
-fn stands_before(a: &[u64], b: &[u64]) -> bool
+pub fn stands_before(a: &[u64], b: &[u64]) -> bool
     requires { ⌜ (length (now a) ≡ rowLong) × (length (now b) ≡ rowLong) ⌝ }
     ensures { λ r. ⌜ r ≡ keyBefore (place (recordAt (now (a .entry)))) (place (recordAt (now (b .entry)))) ⌝ }
 {

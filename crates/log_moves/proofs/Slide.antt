@@ -2,12 +2,11 @@
 use Prim.Native.Nat.{ℕ, suc, _+_, _-_, _*_, _≤_, _<_}
 use native.Mathlib.Omega.{arith}
 use mathlib.Core.Path.{_≡_, refl, sym, ap, ap₂, subst, _∙_}
-use mathlib.Core.Bool.{Bool, true, false, _&&_, _||_}
+use mathlib.Core.Bool.{true, false}
 use mathlib.Core.List.{List, [], _∷_, _++_, List·Memᴰ·append-cases, List·Memᴰ·cases-cons}
-use lib.Dec.{T, ltb, eqb}
+use lib.Dec.{T}
 use lib.ListN.{length, take, drop, getD, set, length-set}
 use lib.Seq.{getD-take, getD-set-same, take-take, take-set-le, drop-set-lt, drop-cons, drop-drop}
-use borrow.Author.Tests.{le-ltb, eq-eqb}
 use Rattle.lists.specs.Tests.{every}
 use Rattle.lists.specs.Facts.{_∈_, either, here, none-in, is-true, is-false, not-from, every-at}
 use Rattle.lists.specs.Order.{keyBefore, rising}
@@ -22,15 +21,6 @@ use Rattle.log_moves.specs.Merge.{beforeOf, afterOf, Parted, Shifted, Sl
 use Rattle.log_moves.specs.OrderLaws.{rising-across}
 use Rattle.log_moves.specs.MergeLaws.{parted}
 use Rattle.log_moves.specs.RowLaws.{records-split, records-snoc, records-same, take-before, words-after}
-
--- with the first numbers equal the second ones decide
-pub second-decides : (x y p q : ℕ) → y ≤ x → x ≡ y → ltb p q ≡ keyBefore (x ∷ p ∷ []) (y ∷ q ∷ [])
-second-decides x y p q h e = rw (le-ltb x y h, eq-eqb x y e) (alone (ltb p q) (eqb p q))
-  where
-    alone : (c d : Bool) → c ≡ (c || d && false)
-    alone true d = refl
-    alone false true = refl
-    alone false false = refl
 
 -- of a rising list whose last does not stand after x, none does
 none-after :
@@ -78,56 +68,56 @@ module _ {row r : List ℕ} {i n : ℕ} (b : Behind row r i n) where
   unfolding recordsAt rows
   behind-all e = parts (λ z m. none-in (subst (λ (l : List Record). z ∈ l) (ap (λ (k : ℕ). recordsAt k r) e) m))
 
--- the shift, from the back: the words from the j-th on are moved, those before it are as they were
+-- the shift, from the back: the words from the j-th on are moved
 pub record Shifting (from to by : ℕ) (r₀ r : List ℕ) (j : ℕ) : Type 0 where
   pub low : from ≤ j
   pub high : j ≤ to
-  pub long : length r ≡ length r₀
-  pub below : take j r ≡ take j r₀
-  pub above : drop (j + by) r ≡ mid j (to - j) r₀ ++ drop (to + by) r₀
+  pub done : Shifted j to by r₀ r
 
 pub shift-start : (from to by : ℕ) (r : List ℕ) → from ≤ to → Shifting from to by r r to
 unfolding mid
 shift-start from to by r h =
     let e : to - to ≡ 0 = omega arith in
-    record { low = h; high = omega arith; long = refl; below = refl; above = rw e }
+    record { low = h; high = omega arith; done = record { long = refl; below = refl; above = rw e } }
 
 module _ {from to by : ℕ} {r₀ r : List ℕ} {j : ℕ} (s : Shifting from to by r₀ r j) (fits : to + by ≤ length r₀) where
   pub shift-more : (k : ℕ) → j ≡ suc k → from ≤ k → Shifting from to by r₀ (set r (k + by) (getD r k 0)) k
   unfolding mid
   shift-more k e h =
       let high = s .high in
-      let long = s .long in
+      let long = s .done .long in
       let n : to - k ≡ suc (to - j) = omega arith in
       let g : k < length r₀ = omega arith in
       record {
         low = h;
         high = omega arith;
-        long = length-set r (k + by) (getD r k 0) ∙ long;
-        below = take-set-le k r (k + by) (getD r k 0) (omega arith) ∙ under;
-        above = moved ∙ ap₂ _∷_ word (s .above) ∙ rw (n, drop-cons r₀ k 0 g, e);
+        done = record {
+          long = length-set r (k + by) (getD r k 0) ∙ long;
+          below = take-set-le k r (k + by) (getD r k 0) (omega arith) ∙ under;
+          above = moved ∙ ap₂ _∷_ word (s .done .above) ∙ rw (n, drop-cons r₀ k 0 g, e);
+        };
       }
     where
       under : take k r ≡ take k r₀
       under =
           let l : k ≤ j = omega arith in
-          sym (take-take k j r l) ∙ ap (take k) (s .below) ∙ take-take k j r₀ l
+          sym (take-take k j r l) ∙ ap (take k) (s .done .below) ∙ take-take k j r₀ l
 
       word : getD r k 0 ≡ getD r₀ k 0
       word =
           let l : k < j = omega arith in
-          sym (getD-take j r k 0 l) ∙ ap (λ (l : List ℕ). getD l k 0) (s .below) ∙ getD-take j r₀ k 0 l
+          sym (getD-take j r k 0 l) ∙ ap (λ (l : List ℕ). getD l k 0) (s .done .below) ∙ getD-take j r₀ k 0 l
 
       moved : drop (k + by) (set r (k + by) (getD r k 0)) ≡ getD r k 0 ∷ drop (j + by) r
       moved =
-          let l : k + by < length r = omega (arith, s .high, s .long) in
+          let l : k + by < length r = omega (arith, s .high, s .done .long) in
           let l′ : k + by < length (set r (k + by) (getD r k 0)) = simp length-set l in
           let m : j + by ≡ suc (k + by) = omega arith in
           drop-cons (set r (k + by) (getD r k 0)) (k + by) 0 l′
           ∙ ap₂ _∷_ (getD-set-same r (k + by) (getD r k 0) 0 l) (drop-set-lt (suc (k + by)) r (k + by) (getD r k 0) (omega arith) ∙ rw m)
 
   pub shift-end : j ≡ from → Shifted from to by r₀ r
-  shift-end e = record { long = s .long; below = rw e at (s .below); above = rw e at (s .above) }
+  shift-end e = subst (λ (i : ℕ). Shifted i to by r₀ r) e (s .done)
 
 -- the search, the shift and the row put in its place
 pub slid :

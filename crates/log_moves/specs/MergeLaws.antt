@@ -4,21 +4,18 @@
 --     gathered-last    of many, the last stands before those after it and behind all else
 --     fresh-rest       the others are fresh to what is left
 --     length-gathered  each new record makes the log one longer
---     every-gathered   what holds of the new and of the old holds of all
 use Prim.Native.Nat.{_+_}
 use mathlib.Core.Path.{_≡_, refl, sym, ap, subst, _∙_}
-use mathlib.Core.Bool.{Bool, true, false, not}
+use mathlib.Core.Bool.{true, false, not}
 use mathlib.Core.List.{List, [], _∷_, _++_, Memᴰ·append-left, Memᴰ·append-right, List·Memᴰ·cases-cons}
 use lib.Dec.{T}
 use lib.ListN.{length}
-use Rattle.lists.specs.Tests.{every}
 use Rattle.lists.specs.Order.{keyBefore, insertAll}
-use Rattle.lists.specs.Facts.{_∈_, either, here, keep-mem, every-at, every-from}
+use Rattle.lists.specs.Facts.{_∈_, either, here, keep-mem}
 use Rattle.lists.specs.Sorted.{before-trans, keep-rising}
 use Rattle.lists.specs.Neighbours.{rising-front}
 use Rattle.ledger.specs.Record.{Record, place}
 use Rattle.ledger.specs.Log.{gathered}
-use Rattle.ledger.specs.LogLaws.{put-log}
 use Rattle.log_moves.specs.Merge.{afterOf, beforeOf, Fresh}
 use Rattle.log_moves.specs.OrderLaws.{parts-of, rising-across, insert-parts, insertAll-last, insertAll-front, length-put}
 
@@ -65,6 +62,3 @@ gathered-one x rs fresh = gathered-last [] x rs fresh ∙ ap (λ (l : List Recor
 pub length-gathered : (new rs : List Record) → Fresh new rs → length (gathered new rs) ≡ length new + length rs
 unfolding gathered
 length-gathered new rs fresh = length-put place new rs (fresh .order) (fresh .apart)
-
-pub every-gathered : (p : Record → Bool) (new rs : List Record) → T (every p new) → T (every p rs) → T (every p (gathered new rs))
-every-gathered p new rs s t = every-from p (gathered new rs) (λ r m. either (put-log new rs .from r m) (λ n. every-at p new s n) (λ n. every-at p rs t n))

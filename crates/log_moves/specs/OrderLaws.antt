@@ -13,10 +13,11 @@ use mathlib.Core.Bool.{Bool, true, false, not, cond}
 use mathlib.Core.List.{List, [], _∷_, _++_, append-nil, Memᴰ·append-right, List·Memᴰ·cases-cons}
 use lib.Dec.{T}
 use lib.ListN.{length}
-use Rattle.lists.specs.Tests.{every, keep}
+use Rattle.lists.specs.Tests.{keep}
 use Rattle.lists.specs.Order.{keyBefore, rising, insert, insertAll}
-use Rattle.lists.specs.Facts.{_∈_, either, and-l, and-r, here, there, none-in, every-at, is-true}
-use Rattle.lists.specs.Sorted.{before-trans, before-irrefl, before-total, put-all}
+use Rattle.lists.specs.Facts.{_∈_, either, here, there, none-in, every-from, is-true, keep-none}
+use Rattle.lists.specs.Sorted.{before-trans, before-irrefl, before-total, head-before, tail-rising, put-all}
+use Rattle.lists.specs.Neighbours.{insert-front}
 use Rattle.lists.specs.MoreFacts.{OneMore, at, later, insert-new}
 
 module _ {A : Type 0} where
@@ -32,37 +33,27 @@ module _ {A : Type 0} where
   keep-passing p [] f = refl
   keep-passing p (x ∷ xs) f = rw (f x here) (ap (λ (l : List A). x ∷ l) (keep-passing p xs (λ y m. f y (there m))))
 
-  keep-failing : (p : A → Bool) (xs : List A) → ((x : A) → x ∈ xs → p x ≡ false) → keep p xs ≡ []
-  keep-failing p [] f = refl
-  keep-failing p (x ∷ xs) f = rw (f x here) (keep-failing p xs (λ y m. f y (there m)))
-
   module _ (p : A → Bool) (xs ys : List A) (fails : (x : A) → x ∈ xs → p x ≡ false) (passes : (y : A) → y ∈ ys → p y ≡ true) where
     pub parts-of : (keep (λ x. not (p x)) (xs ++ ys) ≡ xs) × (keep p (xs ++ ys) ≡ ys)
     parts-of = (
       keep-append (λ x. not (p x)) xs ys
-          ∙ ap₂ _++_ (keep-passing (λ x. not (p x)) xs (λ x m. ap not (fails x m))) (keep-failing (λ x. not (p x)) ys (λ y m. ap not (passes y m)))
+          ∙ ap₂ _++_ (keep-passing (λ x. not (p x)) xs (λ x m. ap not (fails x m))) (keep-none (λ x. not (p x)) ys (λ y m. ap not (passes y m)))
           ∙ append-nil xs,
-      keep-append p xs ys ∙ ap₂ _++_ (keep-failing p xs fails) (keep-passing p ys passes),
+      keep-append p xs ys ∙ ap₂ _++_ (keep-none p xs fails) (keep-passing p ys passes),
     )
 
 module _ {A : Type 0} (key : A → List ℕ) where
-  first-before : (x : A) (xs : List A) → T (rising key (x ∷ xs)) → {z : A} → z ∈ xs → T (keyBefore (key x) (key z))
-  first-before x xs t m = every-at (λ y. keyBefore (key x) (key y)) xs (and-l (every (λ y. keyBefore (key x) (key y)) xs) (rising key xs) t) m
-
-  rest-rising : (x : A) (xs : List A) → T (rising key (x ∷ xs)) → T (rising key xs)
-  rest-rising x xs t = and-r (every (λ y. keyBefore (key x) (key y)) xs) (rising key xs) t
-
   pub rising-across : (xs ys : List A) → T (rising key (xs ++ ys)) → {x y : A} → x ∈ xs → y ∈ ys → T (keyBefore (key x) (key y))
   rising-across [] ys t m n = none-in m
   rising-across (z ∷ zs) ys t {x} {y} m n =
-      either (List·Memᴰ·cases-cons m) (λ e. subst (λ (w : A). T (keyBefore (key w) (key y))) (sym e) (first-before z (zs ++ ys) t (Memᴰ·append-right zs n)))
-      (λ m′. rising-across zs ys (rest-rising z (zs ++ ys) t) m′ n)
+      either (List·Memᴰ·cases-cons m) (λ e. subst (λ (w : A). T (keyBefore (key w) (key y))) (sym e) (head-before key z (zs ++ ys) t (Memᴰ·append-right zs n)))
+      (λ m′. rising-across zs ys (tail-rising key z (zs ++ ys) t) m′ n)
 
   pub insert-parts :
       (x : A) (ys : List A) → T (rising key ys) → ((y : A) → y ∈ ys → key x ≢ key y)
       → insert key x ys ≡ keep (λ y. not (keyBefore (key x) (key y))) ys ++ (x ∷ keep (λ y. keyBefore (key x) (key y)) ys)
   insert-parts x [] t f = refl
-  insert-parts x (y ∷ ys) t f = go (keyBefore (key x) (key y)) refl (keyBefore (key y) (key x)) refl (insert-parts x ys (rest-rising y ys t) (λ z m. f z (there m)))
+  insert-parts x (y ∷ ys) t f = go (keyBefore (key x) (key y)) refl (keyBefore (key y) (key x)) refl (insert-parts x ys (tail-rising key y ys t) (λ z m. f z (there m)))
     where
       after : A → Bool
       after z = keyBefore (key x) (key z)
@@ -72,7 +63,7 @@ module _ {A : Type 0} (key : A → List ℕ) where
           → cond c (x ∷ y ∷ ys) (cond d (y ∷ insert key x ys) (y ∷ ys))
           ≡ cond (not c) (y ∷ keep (λ z. not (after z)) ys) (keep (λ z. not (after z)) ys) ++ (x ∷ cond c (y ∷ keep after ys) (keep after ys))
       go true e d e′ r =
-          let w = parts-of after [] ys (λ z m. none-in m) (λ z m. is-true (after z) (before-trans (key x) (key y) (key z) (subst T (sym e) tt) (first-before y ys t m))) in
+          let w = parts-of after [] ys (λ z m. none-in m) (λ z m. is-true (after z) (before-trans (key x) (key y) (key z) (subst T (sym e) tt) (head-before key y ys t m))) in
           sym (ap₂ (λ (b c : List A). b ++ (x ∷ y ∷ c)) (w .0) (w .1))
       go false e true e′ r = ap (λ (l : List A). y ∷ l) r
       go false e false e′ r = absurd (f y here (before-total (key x) (key y) (subst (λ (c : Bool). T (not c)) (sym e) tt) (subst (λ (c : Bool). T (not c)) (sym e′) tt)))
@@ -81,26 +72,14 @@ module _ {A : Type 0} (key : A → List ℕ) where
   insertAll-last [] x ys = refl
   insertAll-last (z ∷ zs) x ys = ap (insert key z) (insertAll-last zs x ys)
 
-  insert-front : (x : A) (ys zs : List A) → ((z : A) → z ∈ zs → T (keyBefore (key x) (key z))) → insert key x (ys ++ zs) ≡ insert key x ys ++ zs
-  insert-front x [] [] f = refl
-  insert-front x [] (z ∷ zs) f = rw (is-true (keyBefore (key x) (key z)) (f z here))
-  insert-front x (y ∷ ys) zs f = go (keyBefore (key x) (key y)) (keyBefore (key y) (key x)) (insert-front x ys zs f)
-    where
-      go :
-          (c d : Bool) → insert key x (ys ++ zs) ≡ insert key x ys ++ zs
-          → cond c (x ∷ y ∷ (ys ++ zs)) (cond d (y ∷ insert key x (ys ++ zs)) (y ∷ (ys ++ zs))) ≡ cond c (x ∷ y ∷ ys) (cond d (y ∷ insert key x ys) (y ∷ ys)) ++ zs
-      go true d e = refl
-      go false true e = ap (λ (l : List A). y ∷ l) e
-      go false false e = refl
-
   pub insertAll-front :
       (xs ys zs : List A) → ((x : A) → x ∈ xs → (z : A) → z ∈ zs → T (keyBefore (key x) (key z))) → insertAll key xs (ys ++ zs) ≡ insertAll key xs ys ++ zs
   insertAll-front [] ys zs f = refl
-  insertAll-front (x ∷ xs) ys zs f = ap (insert key x) (insertAll-front xs ys zs (λ w m. f w (there m))) ∙ insert-front x (insertAll key xs ys) zs (f x here)
+  insertAll-front (x ∷ xs) ys zs f = ap (insert key x) (insertAll-front xs ys zs (λ w m. f w (there m))) ∙ insert-front key x (insertAll key xs ys) zs (every-from (λ z. keyBefore (key x) (key z)) zs (f x here))
 
   pub length-put : (xs ys : List A) → T (rising key xs) → ((x y : A) → x ∈ xs → y ∈ ys → key x ≢ key y) → length (insertAll key xs ys) ≡ length xs + length ys
   length-put [] ys t f = omega arith
-  length-put (x ∷ xs) ys t f = omega (arith, longer (insert-new key x (insertAll key xs ys) fresh), length-put xs ys (rest-rising x xs t) (λ z y m n. f z y (there m) n))
+  length-put (x ∷ xs) ys t f = omega (arith, longer (insert-new key x (insertAll key xs ys) fresh), length-put xs ys (tail-rising key x xs t) (λ z y m n. f z y (there m) n))
     where
       longer : {z : A} {zs us : List A} → OneMore z zs us → length us ≡ suc (length zs)
       longer at = refl
@@ -108,5 +87,5 @@ module _ {A : Type 0} (key : A → List ℕ) where
 
       fresh : (z : A) → z ∈ insertAll key xs ys → key x ≢ key z
       fresh z m e =
-          either (put-all key xs ys .from z m) (λ n. before-irrefl (key x) (subst (λ (k : List ℕ). T (keyBefore (key x) k)) (sym e) (first-before x xs t n)))
+          either (put-all key xs ys .from z m) (λ n. before-irrefl (key x) (subst (λ (k : List ℕ). T (keyBefore (key x) k)) (sym e) (head-before key x xs t n)))
           (λ n. f x z here n e)

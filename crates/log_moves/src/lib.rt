@@ -1,8 +1,7 @@
 // Rows of the log moved in place: new records merged in from the back, records that may go dropped from the front.
-use log::NUMBER;
-use log::ORIGIN;
 use log::ROW;
 use log::goes;
+use log::stands_before;
 ghost use mathlib.Core.Path.{_≡_};
 ghost use mathlib.Core.List.{[], _∷_, _++_};
 ghost use Prim.Native.Nat.{_+_, _-_, _*_, _≤_};
@@ -15,20 +14,6 @@ ghost use Rattle.log.specs.Region.{rowLong, stampLong, recordAt, recordsAt};
 ghost use Rattle.log.specs.Lowest.{goesBy};
 ghost use Rattle.log.specs.Walk.{recordFrom};
 ghost use Rattle.log_moves.specs.Merge.{Fresh, Parted, Shifted, Slid, merged, Closed};
-
-// Whether row a stands before row b: by origin, then number.
-fn stands_before(a: &[u64], b: &[u64]) -> bool
-    requires { ⌜ (length (now a) ≡ rowLong) × (length (now b) ≡ rowLong) ⌝ }
-    ensures { λ r. ⌜ r ≡ keyBefore (place (recordAt (now (a .entry)))) (place (recordAt (now (b .entry)))) ⌝ }
-{
-    if a[ORIGIN] < b[ORIGIN] {
-        return true;
-    }
-    if a[ORIGIN] != b[ORIGIN] {
-        return false;
-    }
-    a[NUMBER] < b[NUMBER]
-}
 
 // Whether the i-th row of r stands after a row.
 fn after_at(r: &[u64], i: usize, row: &[u64]) -> bool

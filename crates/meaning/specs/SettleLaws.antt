@@ -89,7 +89,7 @@ module _ (b : Book) (rows : List Stamp) (new : List Record) (s : Sound b) (y : R
   gathered-known : (r : Record) → r ∈ all-of → r .number ≤ part now (r .origin)
   gathered-known r m = either (put-log new (b .log) .from r m) (λ n. y .reached r n) (λ n. omega (arith, s .log-known r n, known-rise (r .origin)))
 
-  gathered-obeys : (r : Record) → r ∈ all-of → T (recordFits bodyFits (b .screens) r)
+  pub gathered-obeys : (r : Record) → r ∈ gathered new (b .log) → T (recordFits bodyFits (b .screens) r)
   gathered-obeys r m = either (put-log new (b .log) .from r m) (λ n. y .obey r n) (λ n. s .log-obeys r n)
 
   gathered-old : (r : Record) → r ∈ all-of → T (isApplied (known b) r) → r ∈ b .log

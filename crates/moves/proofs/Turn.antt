@@ -7,15 +7,12 @@ use mathlib.Core.Bool.{Bool, true, false, not, _&&_, cond}
 use mathlib.Core.List.{List, []}
 use lib.Dec.{T}
 use lib.ListN.{length, getD, set, take, drop, length-take, length-drop, drop-of-length-le}
-use lib.Seq.{take-all}
-use Rattle.lists.specs.Facts.{_∈_, bit}
+use Rattle.lists.specs.Facts.{_∈_, getD-in, bit}
 use Rattle.lists.specs.Order.{insert}
 use Rattle.lists.specs.Part.{mid, patch}
 use Rattle.lists.specs.Rows.{rows}
 use Rattle.stamp.specs.Laws.{merge-comm, length-merge, length-replace}
 use Rattle.stamp.specs.Limits.{parts}
-use Rattle.stamp.specs.Parts.{partsAt, listOf}
-use Rattle.stamp.specs.PartsLaws.{list-parts}
 use Rattle.stamp.specs.Stamp.{Stamp, merge}
 use Rattle.tally.specs.Standing.{CountsFit, among, blank, standing}
 use Rattle.tally.specs.StandingLaws.{afresh-at, standing-few}
@@ -34,13 +31,13 @@ use Rattle.counted.specs.RegionLaws.{length-insert, words-inserted}
 use Rattle.prompts.specs.Region.{standingsAt, standingWords, notedAt}
 use Rattle.prompts.specs.RegionLaws.{prompt-word, length-noted}
 use Rattle.meaning.specs.Book.{Book, row, known}
-use Rattle.layout.specs.Held.{Held, put-value, put-log, put-counted, put-prompts}
+use Rattle.layout.specs.Held.{Held, log-words, counted-words, put-value, put-log, put-counted, put-prompts}
 use Rattle.layout.specs.With.{withValue, withLog, withCounted, withPrompts}
-use Rattle.layout.specs.Words.{pieces, bookOf, wordsOf}
-use Rattle.layout.specs.WordsLaws.{Shape, piece-back}
+use Rattle.layout.specs.Words.{bookOf, wordsOf}
+use Rattle.layout.specs.WordsLaws.{Shape}
 use Rattle.moves.specs.Moves.{countOne, added, isNew, applyOne, applyAll, shed, settled}
 use Rattle.moves.specs.Places.{noRecord, held-is, book-is, log-count, counted-count}
-use Rattle.moves.specs.Ready.{Countable, Insertable, Applicable, Ready, getD-in, appliedFrom, from-me, from-known, from-shape, from-log, from-none, from-all, from-next, newly-next, from-applicable}
+use Rattle.moves.specs.Ready.{Countable, Insertable, Applicable, Ready, appliedFrom, from-me, from-known, from-shape, from-log, from-none, from-all, from-next, newly-next, from-applicable}
 
 module _ (ws : List ℕ) (h : Held ws) where
   pub value-merged : (s : Stamp) → patch 68 8 ws (merge (mid 68 8 ws) s) ≡ wordsOf (withValue (merge s ((bookOf ws) .value)) (bookOf ws))
@@ -64,16 +61,12 @@ module _ (ws : List ℕ) (h : Held ws) where
       let small : CountsFit (standing cs p) = record { accepts = omega arith; declines = omega arith } in
       subst CountsFit (sym (ap (λ (ss : List Standing). getD ss p blank) (k .follow) ∙ afresh-at cs p (prompt-word w))) small
 
-  counted-words : mid 2892 1024 ws ≡ tapWords bookRoom ((bookOf ws) .counted)
-  unfolding pieces
-  counted-words = ap (mid 2892 1024) (sym (h .words)) ∙ piece-back (bookOf ws) (h .shape) 4 (omega arith)
-
   pub tap-inserted :
       (w : ℕ) → T (not (among ((bookOf ws) .counted) (tapOf w))) → length ((bookOf ws) .counted) < bookRoom
       → set (patch 2892 1024 ws (insertedAt (getD ws 3 0) w (mid 2892 1024 ws))) 3 (getD ws 3 0 + 1) ≡ wordsOf (withCounted (insert fields (tapOf w) ((bookOf ws) .counted)) (bookOf ws))
   tap-inserted w new lt =
       let ts = insert fields (tapOf w) ((bookOf ws) .counted) in
-      let region : insertedAt (getD ws 3 0) w (mid 2892 1024 ws) ≡ tapWords bookRoom ts = ap₂ (λ (n : ℕ) (l : List ℕ). insertedAt n w l) (counted-count ws h) counted-words ∙ words-inserted bookRoom w ((bookOf ws) .counted) (h .shape .counted-fit) lt new in
+      let region : insertedAt (getD ws 3 0) w (mid 2892 1024 ws) ≡ tapWords bookRoom ts = ap₂ (λ (n : ℕ) (l : List ℕ). insertedAt n w l) (counted-count ws h) (counted-words ws h) ∙ words-inserted bookRoom w ((bookOf ws) .counted) (h .shape .counted-fit) lt new in
       let number : getD ws 3 0 + 1 ≡ length ts = omega (arith, counted-count ws h, length-insert (tapOf w) ((bookOf ws) .counted) new) in
       ap₂ (λ (x : List ℕ) (n : ℕ). set (patch 2892 1024 ws x) 3 n) region number
       ∙ ap (λ (l : List ℕ). set (patch 2892 1024 l (tapWords bookRoom ts)) 3 (length ts)) (sym (h .words))
@@ -123,22 +116,12 @@ stamp-eight row e l =
     let eight : length (take 8 (drop 2 row)) ≡ 8 = simp (length-take, length-drop) (omega arith) in
     length-replace (take 8 (drop 2 row)) (getD row 0 0) (getD row 1 0) (omega arith) ∙ eight
 
-pub whole-stamp : (s : Stamp) → length s ≡ 8 → listOf (partsAt 0 s) ≡ s
-whole-stamp s e =
-    let l : 0 + 8 ≤ length s = omega arith in
-    let m : length s ≤ 8 = omega arith in
-    list-parts 0 s l ∙ take-all 8 s m
-
 pub table-rows : (ws : List ℕ) → rows 8 (getD ws 1 0) (mid 4 64 ws) ≡ (bookOf ws) .table
 unfolding bookOf parts
 table-rows ws = refl
 
 -- the log closed up by the lowest stamp of the table
 module _ (ws : List ℕ) (h : Held ws) (l : (bookOf ws) .me < (bookOf ws) .screens) where
-  log-words : mid 76 2816 ws ≡ logWords logRoom ((bookOf ws) .log)
-  unfolding pieces
-  log-words = ap (mid 76 2816) (sym (h .words)) ∙ piece-back (bookOf ws) (h .shape) 3 (omega arith)
-
   own-row : known (bookOf ws) ∈ (bookOf ws) .table
   unfolding known row
   own-row = getD-in ((bookOf ws) .table) ((bookOf ws) .me) [] (omega (arith, h .shape .rows-long))
@@ -155,7 +138,7 @@ module _ (ws : List ℕ) (h : Held ws) (l : (bookOf ws) .me < (bookOf ws) .scree
       let rs = remaining (known b) (b .table) (b .log) in
       let same : stayers s low (b .log) ≡ rs = rw (f, e) (stayers-remaining (known b) (b .table) (b .log) own-row) in
       let region : dropped s low (getD ws 2 0) (mid 76 2816 ws) ≡ logWords logRoom rs =
-      ap₂ (λ (k : ℕ) (r : List ℕ). dropped s low k r) (log-count ws h) log-words ∙ dropped-words logRoom (b .log) (h .shape .log-eight) s low (h .shape .log-few) ∙ ap (logWords logRoom) same in
+      ap₂ (λ (k : ℕ) (r : List ℕ). dropped s low k r) (log-count ws h) (log-words ws h) ∙ dropped-words logRoom (b .log) (h .shape .log-eight) s low (h .shape .log-few) ∙ ap (logWords logRoom) same in
       let number : n ≡ length rs = g ∙ ap (λ (r : List Record). length (stayers s low r)) read-log ∙ ap length same in
       ap₂ (λ (x : List ℕ) (k : ℕ). set (patch 76 2816 ws x) 2 k) region number
       ∙ ap (λ (r : List ℕ). set (patch 76 2816 r (logWords logRoom rs)) 2 (length rs)) (sym (h .words))

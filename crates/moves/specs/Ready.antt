@@ -9,7 +9,7 @@ use mathlib.Core.List.{List, [], _∷_, flatMap}
 use lib.Dec.{T}
 use lib.ListN.{length, getD, drop, drop-of-length-le}
 use lib.Seq.{drop-cons}
-use Rattle.lists.specs.Facts.{_∈_, here, there, either, bit, keep-length}
+use Rattle.lists.specs.Facts.{_∈_, getD-in, here, there, either, bit, keep-length}
 use Rattle.lists.specs.Order.{keyBefore, rising, insert}
 use Rattle.stamp.specs.Laws.{length-merge, length-replace}
 use Rattle.stamp.specs.Limits.{parts}
@@ -103,12 +103,7 @@ module _ (before now : Stamp) (cs : List Tap) where
       go true t = refl
       go false t = absurd t
 
--- an element of a list, and one of its rest
-pub getD-in : {A : Type 0} (xs : List A) (i : ℕ) (d : A) → i < length xs → getD xs i d ∈ xs
-getD-in [] i d h = absurd (omega arith)
-getD-in (x ∷ xs) zero d h = here
-getD-in (x ∷ xs) (suc i) d h = there (getD-in xs i d (omega arith))
-
+-- an element of a list's rest is one of the list
 in-drop : {A : Type 0} (xs : List A) (i : ℕ) {x : A} → x ∈ drop i xs → x ∈ xs
 in-drop xs zero m = m
 in-drop [] (suc i) m = m

@@ -2,18 +2,18 @@
 use Prim.Native.Nat.{ℕ, suc, _+_, _-_, _*_, _≤_, _<_}
 use native.Mathlib.Numerals.{add-one}
 use native.Mathlib.Omega.{arith}
-use mathlib.Core.Path.{_≡_, refl, sym, ap, ap₂, subst, _∙_}
+use mathlib.Core.Path.{_≡_, sym, ap, ap₂, subst, _∙_}
 use mathlib.Core.Bool.{true, false, not}
 use mathlib.Core.List.{List, [], _∷_, _++_, map, append-nil}
 use lib.Dec.{T, leb}
 use lib.ListN.{length, getD, take, drop, drop-of-length-le}
 use lib.Seq.{take-all, take-suc, drop-cons}
-use types.Run.{OneOf, miss}
+use types.Run.{OneOf}
 use Rattle.lists.specs.Facts.{and-r, bit, is-true, keep-length}
 use Rattle.lists.specs.Order.{rising}
 use Rattle.lists.specs.Tests.{allBelow, every, keep}
 use Rattle.stamp.specs.Parts.{partsAt, listOf}
-use Rattle.stamp.specs.PartsLaws.{list-parts}
+use Rattle.stamp.specs.PartsLaws.{whole-stamp}
 use Rattle.stamp.specs.Stamp.{Stamp, part}
 use Rattle.stamp.specs.declared.Parts.{Parts}
 use Rattle.tally.specs.Tap.{FitsBits, tapFits, fields, wordOf}
@@ -25,19 +25,18 @@ use Rattle.log.specs.Region.{stampLong}
 use Rattle.log.specs.Held.{climbed, climb, holdsAll, climb-holds}
 use Rattle.log_moves.specs.OrderLaws.{keep-append}
 use Rattle.wire.specs.Kinds.{Kind, recordKind, tapAt}
+use Rattle.wire.specs.Laws.{lawful-record}
 use Rattle.wire.specs.Read.{lineOf, readable, readAs}
+use Rattle.wire.specs.ReadLaws.{told-line}
 use Rattle.wire.specs.declared.Said.{Said}
 use Rattle.wire.specs.declared.Said.the-variants as said
 use Rattle.gossip.specs.Find.{partAt}
 use Rattle.gossip.specs.Message.{headLong, recordLong, countIn, kindIn, recordParts, held, recordsIn, inOrder, wellFormed}
 use Rattle.gossip.specs.MessageLaws.{length-records, record-held}
-use Rattle.gossip.specs.Parts.{record-told, part-rules}
+use Rattle.gossip.specs.Parts.{part-rules}
+use Rattle.gossip.specs.Tags.{tagIn, othersThan, not-this}
 use Rattle.gossip.specs.Told.{well-long, well-order}
 use Rattle.newcomers.specs.Head.{Head, recordNo}
-
--- the tags of all that a reader says but a record
-abbrev pub others : List ℕ
-others = 0 ∷ 2 ∷ 3 ∷ 4 ∷ 5 ∷ 6 ∷ 7 ∷ 8 ∷ 9 ∷ 10 ∷ 11 ∷ 12 ∷ []
 
 -- record i among all
 module _ (bytes : List ℕ) (w : T (wellFormed bytes)) (i : ℕ) (l : i < countIn bytes) where
@@ -67,16 +66,16 @@ module _ (bytes : List ℕ) (n : ℕ) (m : Stamp) (h : Head bytes n m) (i : ℕ)
 
   pub never-other :
       (v : Said) → v ≡ readAs (recordKind n m) (partAt i bytes)
-      → OneOf others (denote.Enum.Declared.tagOf Rattle.wire.proofs.Said.the-type v) → ⊥
+      → OneOf (othersThan 1) (tagIn v) → ⊥
   unfolding readAs recordKind
   never-other v read other =
       let line = lineOf (recordKind n m) (partAt i bytes) in
       let e : v ≡ said.Record (getD line 1 0) (getD line 2 0) (partsAt 3 line) (tapAt 11 line) = read ∙ rw (is-true (readable (recordKind n m) (partAt i bytes)) readable-at) in
-      miss others 1 tt (subst (OneOf others) (ap (denote.Enum.Declared.tagOf Rattle.wire.proofs.Said.the-type) e) other)
+      not-this v (said.Record (getD line 1 0) (getD line 2 0) (partsAt 3 line) (tapAt 11 line)) other tt e
 
   module _ (o q : ℕ) (p : Parts) (t : Tap) (read : said.Record o q p t ≡ readAs (recordKind n m) (partAt i bytes)) where
     line-at : lineOf (recordKind n m) (partAt i bytes) ≡ 2 ∷ o ∷ q ∷ listOf p ++ fields t
-    line-at = record-told n m (partAt i bytes) (said.Record o q p t) read refl .1
+    line-at = told-line (recordKind n m) (partAt i bytes) (said.Record o q p t) read (lawful-record n m) (omega arith)
 
     pub tap-bits : FitsBits t
     unfolding listOf
@@ -144,6 +143,4 @@ pub look-whole :
 unfolding inOrder recordsIn
 look-whole bytes w n known m s reached h e f =
     let order = and-r (every (readable (kindIn bytes)) (recordParts bytes)) (rising place (map (held (kindIn bytes)) (recordParts bytes))) (well-order bytes w) in
-    let eight : 0 + 8 ≤ length known = omega (arith, h .0) in
-    let copy : listOf (partsAt 0 known) ≡ known = list-parts 0 known eight ∙ take-all 8 known (omega (arith, h .0)) in
-    rw (e, f, copy) (sym (climb-holds n known m (recordsIn bytes) order (omega (arith, h .0, h .1))))
+    rw (e, f, whole-stamp known (h .0)) (sym (climb-holds n known m (recordsIn bytes) order (omega (arith, h .0, h .1))))

@@ -1,13 +1,12 @@
 -- Laws: open, line by line of its list of stops. Assumes nothing.
-use Prim.Native.Nat.{ℕ, _≤_}
-use mathlib.Core.Path.{_≡_, refl, sym, ap, ap₂, subst, _∙_}
+use Prim.Native.Nat.{ℕ}
+use mathlib.Core.Path.{_≡_, refl, sym, ap₂, subst, _∙_}
 use mathlib.Core.Bool.{Bool, true, false, not}
 use mathlib.Core.List.{List, [], _∷_}
-use lib.Dec.{T, eqb, leb, ltb, leb→le}
+use lib.Dec.{T, eqb}
 use lib.ListN.{length}
-use Rattle.lists.specs.Facts.{all-at}
 use Rattle.lists.specs.Tests.{firstOf}
-use Rattle.ledger.specs.Limits.{fewest, most}
+use Rattle.ledger.specs.LimitLaws.{range-most}
 use Rattle.ledger.specs.Message.{inRange}
 use Rattle.meaning.specs.Book.{fresh}
 use Rattle.meaning.specs.Reply.{refusal}
@@ -17,10 +16,6 @@ use Rattle.answers.specs.Lent.{Opened, openOr, openOn}
 use Rattle.opening.specs.FreshWords.{rest, blank, fresh-words}
 use Rattle.opening.specs.Opening.{Opens}
 use Rattle.opening.specs.declared.Opening.the-variants as says
-
-few : (i n : ℕ) → T (inRange i n) → n ≤ most
-unfolding inRange
-few i n t = leb→le n most (all-at (leb fewest n ∷ leb n most ∷ ltb i n ∷ []) 1 t)
 
 module _ (ws : List ℕ) (i n : ℕ) where
   by-tests : (c d : Bool) → eqb (length ws) bookLong ≡ c → inRange i n ≡ d → openOn ws i n ≡ openOr ws (wordsOf (fresh i n)) (firstOf ((not c, refusal 11) ∷ (not d, refusal 2) ∷ []))
@@ -37,4 +32,4 @@ module _ (ws : List ℕ) (i n : ℕ) where
     out-of-range f = subst (λ (o : Opened). Opens o (says.Refused 2) ws) (sym (by-tests true false e f)) (record { answers = refl; leaves = refl })
 
     pub opens : inRange i n ≡ true → (new : List ℕ) → new ≡ i ∷ n ∷ 0 ∷ 0 ∷ blank rest → Opens (openOn ws i n) says.Opened new
-    opens f new q = subst (λ (o : Opened). Opens o says.Opened new) (sym (by-tests true true e f)) (record { answers = refl; leaves = q ∙ sym (fresh-words i n (few i n (subst T (sym f) tt))) })
+    opens f new q = subst (λ (o : Opened). Opens o says.Opened new) (sym (by-tests true true e f)) (record { answers = refl; leaves = q ∙ sym (fresh-words i n (range-most i n (subst T (sym f) tt))) })

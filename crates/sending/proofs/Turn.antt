@@ -6,7 +6,7 @@ use mathlib.Core.List.{List, _∷_, _++_, append-nil}
 use borrow.Author.Tests.{le-ltb, lt-ltb}
 use lib.Dec.{T}
 use lib.ListN.{length, getD, drop, drop-of-length-le}
-use Rattle.lists.specs.Facts.{is-true}
+use Rattle.lists.specs.Facts.{getD-in, is-true}
 use Rattle.lists.specs.Part.{patch}
 use Rattle.stamp.specs.Parts.{partsAt, listOf}
 use Rattle.stamp.specs.PartsLaws.{list-parts}
@@ -24,17 +24,17 @@ use Rattle.wire.specs.Write.{Meets, writable, written, writeAs}
 use Rattle.wire.specs.declared.Said.the-variants as said
 use Rattle.wire.specs.declared.Written.{Written}
 use Rattle.wire.specs.declared.Written.the-variants.{Wrote, Refused}
+use Rattle.gossip.specs.LineLaws.{head-writable}
 use Rattle.gossip.specs.Message.{headLong, recordLong, headOf, lineFor, bytesOf}
+use Rattle.gossip.specs.MessageLaws.{records-writable, length-bytes-of}
 use Rattle.meaning.specs.Book.{known}
 use Rattle.meaning.specs.BookLaws.{send-fits}
 use Rattle.meaning.specs.Step.{send}
 use Rattle.layout.specs.SoundWords.{lawful-sound, lawful-held}
 use Rattle.layout.specs.Words.{bookLong, bookOf, lawful}
 use Rattle.moves.specs.Places.{noRecord, held-long, log-most, log-count}
-use Rattle.moves.specs.Ready.{getD-in}
 use Rattle.answers.specs.Lent.{putFront}
-use Rattle.sending.specs.Lines.{head-writable, record-writable}
-use Rattle.sending.specs.Long.{record-long, length-message, whole-message, next-record, no-record}
+use Rattle.sending.specs.Long.{record-long, whole-message, next-record, no-record}
 use Rattle.sending.specs.Parts.{startOf, recordBytes, withHead, withRecords}
 
 -- a line that a writer takes, where there is room for it
@@ -77,7 +77,7 @@ module _ (ws : List ℕ) (h : T (lawful ws)) where
 
   pub sent-long : length (bytesOf (send (bookOf ws))) ≡ startOf (getD ws 2 0)
   unfolding send
-  sent-long = length-message (send (bookOf ws)) sent-fits ∙ ap (λ (k : ℕ). startOf k) (sym sent-count)
+  sent-long = length-bytes-of (send (bookOf ws)) sent-fits ∙ ap (λ (k : ℕ). startOf k) (sym sent-count)
 
   module _ (m : Parts) (e : listOf m ≡ known (bookOf ws)) where
     head-line : figures (said.Head (getD ws 0 0) (getD ws 1 0) (getD ws 2 0) m) ≡ headOf (send (bookOf ws))
@@ -96,7 +96,7 @@ module _ (ws : List ℕ) (h : T (lawful ws)) where
     module _ (i : ℕ) (l : i < length ((bookOf ws) .log)) (row : List ℕ) (r : recordAt row ≡ getD ((bookOf ws) .log) i noRecord) where
       pub row-writable : T (writable (recordKind (getD ws 1 0) (listOf m)) (lineFor (recordAt row)))
       unfolding send bookOf
-      row-writable = rw (e, r) (record-writable (send (bookOf ws)) sent-fits (getD ((bookOf ws) .log) i noRecord) (getD-in ((bookOf ws) .log) i noRecord l))
+      row-writable = rw (e, r) (records-writable (send (bookOf ws)) sent-fits (getD ((bookOf ws) .log) i noRecord) (getD-in ((bookOf ws) .log) i noRecord l))
 
       pub row-bytes : written (recordKind (getD ws 1 0) (listOf m)) (lineFor (recordAt row)) ≡ recordBytes (send (bookOf ws)) (getD ((bookOf ws) .log) i noRecord)
       unfolding recordBytes send bookOf

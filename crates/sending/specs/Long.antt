@@ -1,5 +1,5 @@
--- Laws: how long a message is, and that its parts one after the other are the whole of it. Assumes nothing.
---     length-message   37 bytes and 47 for each record
+-- Laws: the parts of a message one after the other are the whole of it. Assumes nothing.
+--     record-long      each record has its 47 bytes
 --     whole-message    the head and then the records are the message
 --     next-record      one record more
 --     no-record        past the last record
@@ -7,13 +7,12 @@ use Prim.Native.Nat.{ℕ, _+_, _*_, _≤_, _<_}
 use native.Mathlib.Numerals.{add-one}
 use native.Mathlib.Omega.{arith}
 use mathlib.Core.Path.{_≡_, sym, ap, ap₂, _∙_}
-use mathlib.Core.List.{List, [], _∷_, _++_, map, append-assoc}
+use mathlib.Core.List.{List, _++_, map, append-assoc}
 use lib.Dec.{T}
-use lib.ListN.{length, getD, take, drop, length-append, length-map, drop-of-length-le, take-append-drop}
+use lib.ListN.{length, getD, take, drop, drop-of-length-le, take-append-drop}
 use lib.Seq.{take-at, drop-at, drop-drop, drop-cons}
-use Rattle.lists.specs.Facts.{_∈_, here, there}
+use Rattle.lists.specs.Facts.{_∈_}
 use Rattle.lists.specs.Part.{patch, take-patch, drop-past}
-use Rattle.lists.specs.RowLaws.{Wide, length-flat}
 use Rattle.lists.specs.Rows.{flat}
 use Rattle.tally.specs.Tap.{bodyFits}
 use Rattle.ledger.specs.Message.{Message, messageFits}
@@ -22,34 +21,18 @@ use Rattle.wire.specs.Kinds.{headKind, recordKind}
 use Rattle.wire.specs.Laws.{length-written}
 use Rattle.wire.specs.Write.{written}
 use Rattle.gossip.specs.Message.{headLong, recordLong, headOf, lineFor, bytesOf}
-use Rattle.sending.specs.Lines.{head-writable, record-writable}
+use Rattle.gossip.specs.MessageLaws.{head-long, records-writable, length-bytes-of}
 use Rattle.sending.specs.Parts.{recordBytes, startOf, withHead, withRecords}
 
-wide-records : (f : Record → List ℕ) (rs : List Record) → ((r : Record) → r ∈ rs → length (f r) ≡ recordLong) → Wide recordLong (map f rs)
-unfolding Wide
-wide-records f [] h = tt
-wide-records f (r ∷ rs) h = (h r here, wide-records f rs (λ x i. h x (there i)))
-
 module _ (m : Message) (h : T (messageFits bodyFits m)) where
-  head-long : length (written headKind (headOf m)) ≡ headLong
-  unfolding headKind
-  head-long = length-written headKind (headOf m) (head-writable m h)
-
   pub record-long : (r : Record) → r ∈ m .records → length (recordBytes m r) ≡ recordLong
   unfolding recordBytes recordKind
-  record-long r i = length-written (recordKind (m .screens) (m .stamp)) (lineFor r) (record-writable m h r i)
-
-  pub length-message : length (bytesOf m) ≡ headLong + length (m .records) * recordLong
-  unfolding bytesOf recordBytes
-  length-message =
-      length-append (written headKind (headOf m)) (flat (map (recordBytes m) (m .records)))
-      ∙ ap₂ _+_ head-long
-      (length-flat recordLong (map (recordBytes m) (m .records)) (wide-records (recordBytes m) (m .records) record-long) ∙ ap (λ (k : ℕ). k * recordLong) (length-map (m .records) (recordBytes m)))
+  record-long r i = length-written (recordKind (m .screens) (m .stamp)) (lineFor r) (records-writable m h r i)
 
   pub whole-message : (out : List ℕ) → withRecords m (m .records) headLong (startOf (length (m .records))) (withHead m out) ≡ bytesOf m ++ drop (length (bytesOf m)) out
   unfolding withRecords withHead bytesOf recordBytes
   whole-message out =
-      ap₂ _++_ (take-at (written headKind (headOf m)) (drop headLong out) headLong head-long)
+      ap₂ _++_ (take-at (written headKind (headOf m)) (drop headLong out) headLong (head-long m h))
       (ap (λ (l : List ℕ). flat (map (recordBytes m) (m .records)) ++ l) past)
       ∙ sym (append-assoc (written headKind (headOf m)) (flat (map (recordBytes m) (m .records))) (drop (length (bytesOf m)) out))
     where
@@ -59,9 +42,9 @@ module _ (m : Message) (h : T (messageFits bodyFits m)) where
       past : drop (headLong + count) (written headKind (headOf m) ++ drop headLong out) ≡ drop (length (bytesOf m)) out
       past =
           sym (drop-drop count headLong (written headKind (headOf m) ++ drop headLong out))
-          ∙ ap (drop count) (drop-at (written headKind (headOf m)) (drop headLong out) headLong head-long)
+          ∙ ap (drop count) (drop-at (written headKind (headOf m)) (drop headLong out) headLong (head-long m h))
           ∙ drop-drop count headLong out
-          ∙ ap (λ (k : ℕ). drop k out) (sym length-message)
+          ∙ ap (λ (k : ℕ). drop k out) (sym (length-bytes-of m h))
 
 -- one turn of the pass over the records: the i-th is put at its place
 pub next-record :

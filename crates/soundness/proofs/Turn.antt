@@ -5,18 +5,15 @@ use native.Mathlib.Omega.{arith}
 use mathlib.Core.Path.{_≡_, refl, ap, _∙_}
 use mathlib.Core.Bool.{Bool, true, false, _&&_, and-false}
 use mathlib.Core.List.{List, [], _∷_, map}
-use lib.Dec.{T, ltb}
-use lib.ListN.{length, take, drop, getD}
-use lib.Seq.{drop-drop, take-all}
-use Rattle.lists.specs.Facts.{all-at, every-getD}
+use lib.Dec.{T}
+use lib.ListN.{take, drop, getD}
+use lib.Seq.{drop-drop}
+use Rattle.lists.specs.Facts.{every-getD}
 use Rattle.lists.specs.RowLaws.{length-rows, rows-at}
 use Rattle.lists.specs.Rows.{rows}
 use Rattle.lists.specs.Tests.{all, every}
-use Rattle.stamp.specs.Limits.{parts, word}
-use Rattle.stamp.specs.Laws.{fits}
-use Rattle.stamp.specs.Parts.{partsAt, listOf}
-use Rattle.stamp.specs.PartsLaws.{list-parts}
-use Rattle.stamp.specs.Stamp.{Stamp, stampRules, stampFits}
+use Rattle.stamp.specs.Limits.{parts}
+use Rattle.stamp.specs.Stamp.{stampFits}
 use Rattle.ledger.specs.Record.{Record}
 use Rattle.log.specs.Region.{rowLong, recordAt, recordsAt}
 
@@ -63,20 +60,6 @@ pub all-off : (cs : List Bool) (k : ℕ) → getD cs k true ≡ false → all cs
 all-off [] k e = e
 all-off (c ∷ cs) zero e = ap (λ (b : Bool). b && all cs) e
 all-off (c ∷ cs) (suc k) e = ap (λ (b : Bool). c && b) (all-off cs k e) ∙ and-false c
-
--- a stamp that fits is long enough to be compared and small enough to be summed
-module _ (n : ℕ) (s : Stamp) (t : T (stampFits n s)) where
-  pub fits-long : length s ≡ 8
-  unfolding parts
-  fits-long = fits n s t .long
-
-  pub fits-words : T (every (λ x. ltb x word) s)
-  unfolding stampFits
-  fits-words = all-at (stampRules n s) 1 t
-
--- a stamp read as a value and laid out again
-pub copied : (s : Stamp) → length s ≡ 8 → listOf (partsAt 0 s) ≡ s
-copied s h = list-parts 0 s (omega arith) ∙ take-all 8 s (omega arith)
 
 -- row i of a table whose rows fit, as it is lent
 pub row-fits : (i n : ℕ) (table : List ℕ) → i < n → T (every (stampFits n) (rows parts n table)) → T (stampFits n (take (i * 8 + 8 - i * 8) (drop (i * 8) table)))

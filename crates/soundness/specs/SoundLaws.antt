@@ -1,14 +1,14 @@
 -- Laws: what is tested is what soundness says. The limit on each prompt's two counts follows from the others. Assumes nothing.
 --     sound-is        a book whose numbers are in range is sound exactly when its groups of clauses hold
 --     lawful-pieces   words of the right shape, their numbers in range, are sound exactly when their pieces pass
-use Prim.Native.Nat.{ℕ, zero, suc, _≤_, _<_, _+_}
+use Prim.Native.Nat.{ℕ, _≤_, _+_}
 use native.Mathlib.Omega.{arith}
 use mathlib.Core.Path.{_≡_, sym, ap, subst, _∙_}
 use mathlib.Core.Bool.{Bool, true, false, not, _&&_, _||_, and-false}
 use mathlib.Core.List.{List, [], _∷_}
 use lib.Dec.{T, leb, leb→le, le→leb}
 use lib.ListN.{length, getD}
-use Rattle.lists.specs.Facts.{_∈_, here, there, and-l, and-r, both, all-at, all-from, _also_, done, every-from, same-test}
+use Rattle.lists.specs.Facts.{_∈_, getD-in, and-l, and-r, both, all-at, all-from, _also_, done, every-from, same-test}
 use Rattle.lists.specs.MoreFacts.{eq→eqb, every-same}
 use Rattle.lists.specs.RowLaws.{length-rows, rows-at}
 use Rattle.lists.specs.Tests.{all, every}
@@ -31,11 +31,6 @@ use Rattle.meaning.specs.Book.{Book, known, row, waiting, clauses, sound}
 use Rattle.layout.specs.Words.{bookOf, piece, shaped, lawful}
 use Rattle.layout.specs.WordsLaws.{log-few}
 use Rattle.soundness.specs.Clauses.{fitRules, withinRules, logRules, countedRules, regionRules, pieceRules}
-
-getD-in : {A : Type 0} (xs : List A) (i : ℕ) (d : A) → i < length xs → getD xs i d ∈ xs
-getD-in [] i d h = absurd (omega arith)
-getD-in (x ∷ xs) zero d h = here
-getD-in (x ∷ xs) (suc i) d h = there (getD-in xs i d (omega arith))
 
 module _ (b : Book) (range : T (inRange (b .me) (b .screens))) (long : length (b .table) ≡ b .screens) (few : length (b .log) ≤ logRoom) where
   abbrev low : Stamp

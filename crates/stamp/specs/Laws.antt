@@ -6,7 +6,7 @@ use mathlib.Core.Path.{_≡_, refl, sym, ap, ap₂, subst, _∙_}
 use mathlib.Core.Logic.{_⊎_, inl, inr, _≢_}
 use mathlib.Core.Bool.{Bool, true, false, cond}
 use mathlib.Core.List.{[], _∷_}
-use lib.Dec.{T, leb, ltb, eqb, leb→le, le→leb, ltb→lt, lt→ltb, eqb→eq, eqb-refl}
+use lib.Dec.{T, leb, ltb, eqb, leb→le, le→leb, ltb→lt, lt→ltb, eqb→eq}
 use lib.Pow.{pow-mono}
 use lib.ListN.{length, set, drop, replicate, length-replicate}
 use lib.Seq.{getD-drop, ext-getD}
@@ -14,7 +14,8 @@ use borrow.Author.Tests.{le-ltb}
 use Rattle.stamp.specs.Limits.{parts, word}
 use Rattle.lists.specs.Tests.{every}
 use Rattle.stamp.specs.Stamp.{Stamp, part, atMost, merge, replace, total, zeros, over, excess, stampRules, stampFits}
-use Rattle.lists.specs.Facts.{either, tell, clash, every-place, getD-every as place-every, and-l, and-r, both, all-at, all-from, done, _also_}
+use Rattle.lists.specs.Facts.{either, tell, clash, every-place, getD-every, and-l, and-r, both, all-at, all-from, done, _also_}
+use Rattle.lists.specs.MoreFacts.{eq→eqb}
 
 -- b covers a, part by part
 abbrev pub Covers : Stamp → Stamp → Type 0
@@ -32,7 +33,7 @@ parts-atMost [] b f = tt
 parts-atMost (x ∷ a) [] f = both (eqb x 0) (atMost a []) (zero-test x (f 0)) (parts-atMost a [] (λ k. f (suc k)))
   where
     zero-test : (v : ℕ) → v ≤ 0 → T (eqb v 0)
-    zero-test v h = subst (λ (w : ℕ). T (eqb v w)) (omega arith) (eqb-refl v)
+    zero-test v h = eq→eqb v 0 (omega arith)
 parts-atMost (x ∷ a) (y ∷ b) f = both (leb x y) (atMost a b) (le→leb x y (f 0)) (parts-atMost a b (λ k. f (suc k)))
 
 pub covers-trans : (a b c : Stamp) → Covers b a → Covers c b → Covers c a
@@ -64,7 +65,7 @@ part-other (x ∷ s) (suc k) v (suc j) h = part-other s k v j (λ e. h (ap suc e
 pub part-either : (s : Stamp) (k v j : ℕ) → ((j ≡ k) × (part (replace s k v) j ≡ v)) ⊎ (part (replace s k v) j ≡ part s j)
 part-either s k v j =
     either (tell (eqb j k)) (λ e. inl (eqb→eq j k e, subst (λ (i : ℕ). part (replace s k v) i ≡ v) (sym (eqb→eq j k e)) (part-replaced s k v)))
-    (λ n. inr (part-other s k v j (λ e. clash (eqb j k) (subst (λ (w : ℕ). T (eqb j w)) e (eqb-refl j)) n)))
+    (λ n. inr (part-other s k v j (λ e. clash (eqb j k) (eq→eqb j k e) n)))
 
 -- what a slice's store does
 pub set-replace : (s : Stamp) (k v : ℕ) → k < length s → set s k v ≡ replace s k v
@@ -252,12 +253,22 @@ fits n s t =
         subst (λ (j : ℕ). part s j ≡ 0) (back h)
         (sym (getD-drop n s (k - n) 0) ∙ eqb→eq (part (drop n s) (k - n)) 0 (every-place (λ x. eqb x 0) (drop n s) 0 (all-at (stampRules n s) 2 t) tt (k - n)))
 
+-- what the test says of the whole stamp
+module _ (n : ℕ) (s : Stamp) (t : T (stampFits n s)) where
+  pub fits-long : length s ≡ 8
+  unfolding parts
+  fits-long = fits n s t .long
+
+  pub fits-words : T (every (λ x. ltb x word) s)
+  unfolding stampFits
+  fits-words = all-at (stampRules n s) 1 t
+
 pub fits-test : (n : ℕ) (s : Stamp) → Fits n s → T (stampFits n s)
 unfolding stampFits
 fits-test n s f =
     all-from {cs = stampRules n s}
-    (subst (λ (w : ℕ). T (eqb (length s) w)) (f .long) (eqb-refl (length s)) also place-every (λ x. ltb x word) s 0 (λ k h. lt→ltb (part s k) word (f .words k))
-    also place-every (λ x. eqb x 0) (drop n s) 0 (λ k h. subst (λ (v : ℕ). T (eqb v 0)) (sym (getD-drop n s k 0 ∙ f .past (n + k) (omega arith))) tt) also done)
+    (eq→eqb (length s) parts (f .long) also getD-every (λ x. ltb x word) s 0 (λ k h. lt→ltb (part s k) word (f .words k))
+    also getD-every (λ x. eqb x 0) (drop n s) 0 (λ k h. subst (λ (v : ℕ). T (eqb v 0)) (sym (getD-drop n s k 0 ∙ f .past (n + k) (omega arith))) tt) also done)
 
 pub fits-merge : (n : ℕ) (a b : Stamp) → Fits n a → Fits n b → Fits n (merge a b)
 fits-merge n a b f g =

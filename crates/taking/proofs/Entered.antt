@@ -22,7 +22,7 @@ use Rattle.moves.specs.Moves.{settled}
 use Rattle.moves.specs.MovesLaws.{settle-is}
 use Rattle.moves.specs.Places.{held-is, book-is}
 use Rattle.moves.specs.Ready.{Ready}
-use Rattle.taking.specs.InPlace.{new-fresh, rows-shape, log-shape, in-place-ready}
+use Rattle.moves.specs.InPlace.{new-fresh, rows-shape, log-shape, in-place-ready}
 
 module _
     (b : Book) (t : Tap) (l : Stamp) (d : TapDone b t l) (row : List ℕ) (e : recordAt row ≡ newRecord b t l)

@@ -1,8 +1,6 @@
 -- The lines of a tap's stops, on a sound book and by the tests that lead to each. Assumes nothing.
-use mathlib.Core.Path.{_≡_, sym, ap, subst, _∙_}
+use mathlib.Core.Path.{_≡_, sym, subst}
 use mathlib.Core.Bool.{Bool, true, false, not}
-use mathlib.Core.List.{List}
-use Prim.Native.Nat.{ℕ}
 use lib.Dec.{T, ltb, leb}
 use lib.ListN.{length}
 use borrow.Author.Tests.{ltb-false, leb-false}
@@ -18,15 +16,6 @@ use Rattle.meaning.specs.BookLaws.{Sound, at-sound}
 use Rattle.meaning.specs.Reply.{Reply, refusal, already}
 use Rattle.meaning.specs.Step.{Outcome, firstStamp, tapStops, tapStep}
 use Rattle.meaning.specs.StepLaws.{TapDone, tap-out}
-use Rattle.layout.specs.Words.{wordsOf}
-use Rattle.answers.specs.Lent.{Promise}
-use Rattle.answers.specs.LentLaws.{lentOf}
-use Rattle.answers.specs.Spoken.{spoken}
-use Rattle.answers.specs.declared.Reply as answer
-
--- what is answered and left is the reply and the words of an outcome
-pub owes : (o p : Outcome) (r : answer.Reply) (ws : List ℕ) → o ≡ p → spoken r ≡ p .reply → ws ≡ wordsOf (p .book) → Promise (lentOf o) r ws
-owes o p r ws e f g = record { answers = f ∙ ap (λ (x : Outcome). x .reply) (sym e); leaves = g ∙ ap (λ (x : Outcome). wordsOf (x .book)) (sym e) }
 
 -- a test that fails
 off : {c : Bool} → c ≡ false → T (not c)

@@ -6,39 +6,31 @@ use mathlib.Core.Path.{_≡_, refl, sym, ap, ap₂, _∙_}
 use mathlib.Core.List.{List, [], _∷_, _++_, append-assoc}
 use lib.Dec.{T, ltb, lt→ltb}
 use lib.ListN.{length, getD, set, replicate, length-set}
-use lib.Seq.{set-append-left, take-all}
-use Rattle.lists.specs.Facts.{getD-every}
+use lib.Seq.{set-append-left}
+use Rattle.lists.specs.Facts.{getD-in, getD-every}
 use Rattle.lists.specs.Part.{mid, patch, length-mid}
 use Rattle.lists.specs.RowLaws.{Wide}
 use Rattle.lists.specs.Rows.{flat}
 use Rattle.lists.specs.Tests.{every}
 use Rattle.stamp.specs.Laws.{set-replace}
 use Rattle.stamp.specs.Limits.{parts, word}
-use Rattle.stamp.specs.Parts.{partsAt, listOf}
-use Rattle.stamp.specs.PartsLaws.{list-parts}
+use Rattle.stamp.specs.Parts.{listOf}
 use Rattle.stamp.specs.Stamp.{Stamp, part, replace}
 use Rattle.stamp.specs.declared.Parts.{Parts}
 use Rattle.tally.specs.Tap.{bodyFits, tapOf}
 use Rattle.tally.specs.WordLaws.{word-tap}
 use Rattle.ledger.specs.LimitLaws.{range-parts}
-use Rattle.ledger.specs.Limits.{most, logRoom}
-use Rattle.ledger.specs.Log.{gathered}
-use Rattle.ledger.specs.Record.{Record}
+use Rattle.ledger.specs.Limits.{most}
 use Rattle.ledger.specs.RecordLaws.{obeys}
-use Rattle.log.specs.Region.{recordAt, logWords}
-use Rattle.log_moves.specs.Merge.{Fresh, merged}
-use Rattle.log_moves.specs.MergeLaws.{length-gathered}
-use Rattle.log_moves.specs.WordLaws.{merged-words}
+use Rattle.log.specs.Region.{recordAt}
 use Rattle.meaning.specs.Book.{Book, row, known}
 use Rattle.meaning.specs.BookLaws.{Sound, me-in, known-fits}
 use Rattle.meaning.specs.Step.{newRecord}
-use Rattle.layout.specs.Held.{Held, put-table, put-log}
+use Rattle.layout.specs.Held.{Held, table-words, put-table}
 use Rattle.layout.specs.SoundWords.{lawful-sound}
-use Rattle.layout.specs.With.{withTable, withLog}
-use Rattle.layout.specs.Words.{pieces, tableWords, bookOf, wordsOf, lawful}
-use Rattle.layout.specs.WordsLaws.{piece-back}
-use Rattle.moves.specs.Places.{noRecord, held-long, me-small, log-count}
-use Rattle.moves.specs.Ready.{getD-in}
+use Rattle.layout.specs.With.{withTable}
+use Rattle.layout.specs.Words.{tableWords, bookOf, wordsOf, lawful}
+use Rattle.moves.specs.Places.{noRecord, held-long, me-small}
 
 -- a store past the front of a list
 set-past : (c r : List ℕ) (j v : ℕ) → set (c ++ r) (length c + j) v ≡ c ++ set r j v
@@ -82,40 +74,18 @@ module _ (ws : List ℕ) (h : Held ws) where
       (v : ℕ) → (bookOf ws) .me < (bookOf ws) .screens
       → patch 4 64 ws (replace (mid 4 64 ws) (getD ws 0 0 * 8 + getD ws 0 0) v)
       ≡ wordsOf (withTable (set ((bookOf ws) .table) ((bookOf ws) .me) (replace (known (bookOf ws)) ((bookOf ws) .me) v)) (bookOf ws))
-  unfolding known row pieces parts
+  unfolding known row parts
   own-raised v l =
       let b = bookOf ws in
       let i = b .me in
       let me : getD ws 0 0 ≡ i = own-place ws in
       let few : i < 8 = omega (arith, me-small ws h l) in
       let in-rows : i < length (b .table) = omega (arith, h .shape .rows-long) in
-      let words : mid 4 64 ws ≡ tableWords (b .table) = ap (mid 4 64) (sym (h .words)) ∙ piece-back b (h .shape) 1 (omega arith) in
       let long : length (mid 4 64 ws) ≡ 64 = length-mid 4 64 ws (omega (arith, held-long ws h)) in
       let within : i * 8 + i < length (mid 4 64 ws) = omega arith in
-      rw me (ap (patch 4 64 ws) (sym (set-replace (mid 4 64 ws) (i * 8 + i) v within) ∙ ap (λ (r : List ℕ). set r (i * 8 + i) v) words ∙ table-set (b .table) i i v (h .shape .rows-wide) in-rows few)
+      rw me (ap (patch 4 64 ws) (sym (set-replace (mid 4 64 ws) (i * 8 + i) v within) ∙ ap (λ (r : List ℕ). set r (i * 8 + i) v) (table-words ws h) ∙ table-set (b .table) i i v (h .shape .rows-wide) in-rows few)
       ∙ ap (λ (r : List ℕ). patch 4 64 r (tableWords (set (b .table) i (replace (getD (b .table) i []) i v)))) (sym (h .words))
       ∙ put-table b (h .shape) (set (b .table) i (replace (getD (b .table) i []) i v)))
-
-  pub log-put :
-      (x : Record) → Fresh (x ∷ []) ((bookOf ws) .log) → length ((bookOf ws) .log) < logRoom
-      → set (patch 76 2816 ws (merged (x ∷ []) (getD ws 2 0) 1 (mid 76 2816 ws))) 2 (getD ws 2 0 + 1) ≡ wordsOf (withLog (gathered (x ∷ []) ((bookOf ws) .log)) (bookOf ws))
-  unfolding pieces
-  log-put x fresh room =
-      let b = bookOf ws in
-      let rs = gathered (x ∷ []) (b .log) in
-      let words : mid 76 2816 ws ≡ logWords logRoom (b .log) = ap (mid 76 2816) (sym (h .words)) ∙ piece-back b (h .shape) 3 (omega arith) in
-      let region : merged (x ∷ []) (getD ws 2 0) 1 (mid 76 2816 ws) ≡ logWords logRoom rs =
-      ap₂ (λ (k : ℕ) (r : List ℕ). merged (x ∷ []) k 1 r) (log-count ws h) words ∙ merged-words logRoom (b .log) (h .shape .log-eight) (x ∷ []) fresh (omega arith) in
-      let number : getD ws 2 0 + 1 ≡ length rs = omega (arith, log-count ws h, length-gathered (x ∷ []) (b .log) fresh) in
-      ap₂ (λ (r : List ℕ) (k : ℕ). set (patch 76 2816 ws r) 2 k) region number
-      ∙ ap (λ (r : List ℕ). set (patch 76 2816 r (logWords logRoom rs)) 2 (length rs)) (sym (h .words))
-      ∙ put-log b (h .shape) rs
-
-pub whole-stamp : (s : Stamp) → length s ≡ 8 → listOf (partsAt 0 s) ≡ s
-whole-stamp s e =
-    let l : 0 + 8 ≤ length s = omega arith in
-    let m : length s ≤ 8 = omega arith in
-    list-parts 0 s l ∙ take-all 8 s m
 
 -- our own number is one of the stamp's parts
 pub own-small : (b : Book) → Sound b → b .me < 8

@@ -2,13 +2,13 @@
 -- taps are the same exactly when the words are. Assumes nothing.
 use Prim.Native.Nat.{ℕ, _/_, _%_, _<_, _^_}
 use native.Mathlib.Omega.{arith}
-use mathlib.Core.Path.{_≡_, refl, sym, ap, ap₂, subst, _∙_}
+use mathlib.Core.Path.{_≡_, sym, ap, ap₂, subst, _∙_}
 use mathlib.Core.Bool.{true}
-use lib.Dec.{T, leb, ltb, eqb, leb→le, ltb→lt, lt→ltb, eqb→eq, eqb-refl}
+use lib.Dec.{T, leb, ltb, eqb, leb→le, ltb→lt, lt→ltb, eqb→eq}
 use lib.ListN.{getD, drop}
-use Rattle.lists.specs.Tests.{all}
-use Rattle.lists.specs.Order.{sameKey, keyBefore}
+use Rattle.lists.specs.Order.{keyBefore}
 use Rattle.lists.specs.Facts.{either, tell, and-l, and-r, both, all-at, same-test}
+use Rattle.lists.specs.MoreFacts.{eq→eqb}
 use Rattle.lists.specs.Sorted.{before-cons, before-total, sameKey→≡, sameKey-refl}
 use Rattle.tally.specs.declared.Tap.{Tap}
 use Rattle.tally.specs.Limits.{frontEnds, serials, promptCount, showings, accept, decline}
@@ -97,13 +97,13 @@ tap-same t = sameKey-refl (fields t)
 
 pub same-word : (t u : Tap) → FitsBits t → FitsBits u → sameTap t u ≡ eqb (wordOf t) (wordOf u)
 same-word t u h k =
-    same-test (sameTap t u) (eqb (wordOf t) (wordOf u)) (λ s. subst (λ (x : Tap). T (eqb (wordOf t) (wordOf x))) (same-tap t u s) (eqb-refl (wordOf t)))
+    same-test (sameTap t u) (eqb (wordOf t) (wordOf u)) (λ s. eq→eqb (wordOf t) (wordOf u) (ap wordOf (same-tap t u s)))
     (λ e. subst (λ (x : Tap). T (sameTap t x)) (sym (tap-word t h) ∙ ap tapOf (eqb→eq (wordOf t) (wordOf u) e) ∙ tap-word u k) (tap-same t))
 
 pub tap-equal : (v w : ℕ) → sameTap (tapOf v) (tapOf w) ≡ eqb v w
 tap-equal v w =
     same-test (sameTap (tapOf v) (tapOf w)) (eqb v w)
-    (λ s. subst (λ (x : ℕ). T (eqb v x)) (sym (word-tap v) ∙ ap wordOf (same-tap (tapOf v) (tapOf w) s) ∙ word-tap w) (eqb-refl v))
+    (λ s. eq→eqb v w (sym (word-tap v) ∙ ap wordOf (same-tap (tapOf v) (tapOf w) s) ∙ word-tap w))
     (λ e. subst (λ (x : ℕ). T (sameTap (tapOf v) (tapOf x))) (eqb→eq v w e) (tap-same (tapOf v)))
 
 -- a body keeps its rule exactly when its tap keeps the field rules

@@ -1,13 +1,14 @@
 -- What each test of `is_kind` settles about the shape of the bytes. Assumes nothing.
 use Prim.Native.Nat.{ℕ, _+_, _-_, _<_}
 use native.Mathlib.Omega.{arith}
-use mathlib.Core.Path.{_≡_, refl, sym, subst}
+use mathlib.Core.Path.{_≡_, refl, sym}
 use mathlib.Core.Bool.{Bool, true, false, _&&_}
 use mathlib.Core.List.{List}
 use borrow.Author.Tests.{eq-eqb, ne-eqb}
-use lib.Dec.{T, eqb, eqb→eq, eqb-refl}
+use lib.Dec.{eqb, eqb→eq}
 use lib.ListN.{length, getD}
 use Rattle.lists.specs.Facts.{same-test}
+use Rattle.lists.specs.MoreFacts.{eq→eqb}
 use Rattle.wire.specs.Kinds.{bodyOf, isLong, shaped}
 use Rattle.wire.specs.declared.Body.{Body}
 use Rattle.wire.specs.declared.Body.the-variants.{Long, Bad}
@@ -36,7 +37,4 @@ module _ (k : ℕ) (bytes : List ℕ) where
   unfolding shaped
   settled n h e b =
       rw (eq-eqb (getD bytes 0 0) k e, b)
-      (same-test (eqb (length bytes - 1) n) (eqb (length bytes) (1 + n)) (λ t. same (length bytes) (1 + n) (omega (arith, eqb→eq (length bytes - 1) n t))) (λ t. same (length bytes - 1) n (omega (arith, eqb→eq (length bytes) (1 + n) t))))
-    where
-      same : (x y : ℕ) → x ≡ y → T (eqb x y)
-      same x y q = subst (λ (w : ℕ). T (eqb x w)) q (eqb-refl x)
+      (same-test (eqb (length bytes - 1) n) (eqb (length bytes) (1 + n)) (λ t. eq→eqb (length bytes) (1 + n) (omega (arith, eqb→eq (length bytes - 1) n t))) (λ t. eq→eqb (length bytes - 1) n (omega (arith, eqb→eq (length bytes) (1 + n) t))))

@@ -131,9 +131,11 @@ abbrev pub lookup : ℕ → List (ℕ × ℕ) → Body
 lookup k [] = Bad 1
 lookup k (l ∷ t) = cond (eqb k (l .0)) (Long (l .1)) (lookup k t)
 
+abbrev pub bodies : List (ℕ × ℕ)
+bodies = (1, 36) ∷ (2, 46) ∷ (3, 41) ∷ (4, 33) ∷ (5, 32) ∷ (6, 32) ∷ (7, 43) ∷ (8, 1) ∷ (9, 1) ∷ (10, 4) ∷ (11, 2) ∷ (12, 0) ∷ []
+
 unfoldable pub bodyOf : ℕ → Body
-bodyOf k =
-    lookup k ((1, 36) ∷ (2, 46) ∷ (3, 41) ∷ (4, 33) ∷ (5, 32) ∷ (6, 32) ∷ (7, 43) ∷ (8, 1) ∷ (9, 1) ∷ (10, 4) ∷ (11, 2) ∷ (12, 0) ∷ [])
+bodyOf k = lookup k bodies
 
 -- the bytes are of this kind and of its length
 abbrev pub isLong : Body → ℕ → Bool

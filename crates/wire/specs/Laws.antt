@@ -8,16 +8,19 @@
 --     refused-leaves   a refusal changes nothing
 --     read-front       the front of the output reads as the value that was written there
 --     one-outcome      two outcomes that a writer's promise allows are one
+--     body-few         no body is longer than a record's
 use Prim.Native.Nat.{ℕ, zero, suc, _+_, _≤_, _<_}
 use native.Mathlib.Omega.{arith}
 use mathlib.Core.Path.{_≡_, refl, sym, ap, ap₂, subst, _∙_}
 use mathlib.Core.Bool.{Bool, true, false, _&&_, cond}
 use mathlib.Core.List.{List, [], _∷_, _++_}
 use borrow.Author.Tests.{le-ltb, ltb-false}
-use lib.Dec.{T, ltb, eqb, eqb→eq, eqb-refl}
+use lib.Dec.{T, leb, leb→le, ltb, eqb, eqb→eq}
 use lib.ListN.{length, getD, take, drop, drop-of-length-le}
 use lib.Seq.{drop-cons, take-at, drop-at}
 use Rattle.lists.specs.Facts.{and-l, and-r, both, is-true}
+use Rattle.lists.specs.MoreFacts.{eq→eqb}
+use Rattle.lists.specs.Tests.{every}
 use Rattle.stamp.specs.Stamp.{Stamp, total}
 use Rattle.stamp.specs.Parts.{partsAt, listOf}
 use Rattle.bigendian.specs.Number.{numberFrom, Bytes}
@@ -30,18 +33,28 @@ use Rattle.wire.specs.declared.Written.the-variants.{Wrote, Refused}
 use Rattle.wire.specs.declared.Body.{Body}
 use Rattle.wire.specs.declared.Body.the-variants.{Long}
 use Rattle.wire.specs.Said.{figures}
-use Rattle.wire.specs.Kinds.{Kind, widths, size, bodyOf, isLong, shaped, headKind, recordKind, tapKind, questionKind, takenKind, alreadyKind, verdictKind, waitKind, refusalKind, gossipTakenKind, openKind, sendKind}
+use Rattle.wire.specs.Kinds.{Kind, widths, size, lookup, bodies, bodyOf, isLong, shaped, headKind, recordKind, tapKind, questionKind, takenKind, alreadyKind, verdictKind, waitKind, refusalKind, gossipTakenKind, openKind, sendKind}
 use Rattle.wire.specs.Read.{lineOf, readable, readAs}
 use Rattle.wire.specs.Returns.{fit-length}
 use Rattle.wire.specs.Write.{Output, Meets, refuse, writable, written, writeAs}
+
+-- a body that a table has is no longer than all of them
+lookup-few : (m k n : ℕ) (table : List (ℕ × ℕ)) → T (every (λ l. leb (l .1) m) table) → lookup k table ≡ Long n → n ≤ m
+lookup-few m k n [] t e = let z : _≡_ {A = ℕ} 0 1 = cc in absurd (omega arith)
+lookup-few m k n (l ∷ ls) t e = go (eqb k (l .0)) (lookup-few m k n ls (and-r (leb (l .1) m) (every (λ x. leb (x .1) m) ls) t)) e
+  where
+    go : (c : Bool) → (lookup k ls ≡ Long n → n ≤ m) → cond c (Long (l .1)) (lookup k ls) ≡ Long n → n ≤ m
+    go true rec q = let z : l .1 ≡ n = cc in omega (arith, leb→le (l .1) m (and-l (leb (l .1) m) (every (λ x. leb (x .1) m) ls) t))
+    go false rec q = rec q
+
+pub body-few : (k n : ℕ) → bodyOf k ≡ Long n → n ≤ 46
+unfolding bodyOf
+body-few k n e = lookup-few 46 k n bodies tt e
 
 -- the table has the body's length, and what a line of the kind says is that line
 pub record Lawful (k : Kind) : Type 0 where
   pub long : bodyOf (k .number) ≡ Long (total (k .body))
   pub told : (line : List ℕ) → length line ≡ length (widths k) → getD line 0 0 ≡ k .number → figures (k .said line) ≡ line
-
-same : (x y : ℕ) → x ≡ y → T (eqb x y)
-same x y e = subst (λ (z : ℕ). T (eqb x z)) e (eqb-refl x)
 
 -- the first value of a line is the first byte
 first-byte : (k : Kind) (bytes : List ℕ) → getD (lineOf k bytes) 0 0 ≡ getD bytes 0 0
@@ -79,8 +92,8 @@ module _ (k : Kind) (l : Lawful k) where
   shape-from : (bytes : List ℕ) → getD bytes 0 0 ≡ k .number → length bytes ≡ size k → T (shaped (k .number) bytes)
   unfolding shaped
   shape-from bytes e n =
-      both (eqb (getD bytes 0 0) (k .number)) (isLong (bodyOf (k .number)) (length bytes)) (same (getD bytes 0 0) (k .number) e)
-      (subst (λ (b : Body). T (isLong b (length bytes))) (sym (l .long)) (same (length bytes) (size k) n))
+      both (eqb (getD bytes 0 0) (k .number)) (isLong (bodyOf (k .number)) (length bytes)) (eq→eqb (getD bytes 0 0) (k .number) e)
+      (subst (λ (b : Body). T (isLong b (length bytes))) (sym (l .long)) (eq→eqb (length bytes) (size k) n))
 
   module _ (bytes : List ℕ) (r : T (readable k bytes)) where
     shape : T (shaped (k .number) bytes)
@@ -118,7 +131,7 @@ module _ (k : Kind) (l : Lawful k) where
       unfolding writable
       line-writable =
           both (eqb (getD (lineOf k bytes) 0 0) (k .number)) (fieldsFit (widths k) (lineOf k bytes) && k .rules (lineOf k bytes))
-          (same (getD (lineOf k bytes) 0 0) (k .number) (first-byte k bytes ∙ kind-first))
+          (eq→eqb (getD (lineOf k bytes) 0 0) (k .number) (first-byte k bytes ∙ kind-first))
           (both (fieldsFit (widths k) (lineOf k bytes)) (k .rules (lineOf k bytes)) in-width kept)
 
       -- write of read is the bytes

@@ -4,4 +4,5 @@ pub mod Read
 pub mod Write
 pub mod Returns
 pub mod Laws
+pub mod ReadLaws
 pub mod Case

@@ -1,11 +1,15 @@
 -- `answering::answer_other` meets its contract. Assumes nothing.
-use mathlib.Core.Path.{refl, ap}
+use mathlib.Core.Path.{ap}
 use mathlib.Core.Bool.{Bool, cond}
-use mathlib.Core.List.{[], _∷_}
+use native.Mathlib.Omega.{arith}
+use lib.ListN.{length}
+use Rattle.lists.specs.Facts.{is-true}
+use Rattle.wire.specs.Read.{readable}
+use Rattle.wire.specs.ReadLaws.{told, untold}
+use Rattle.wire.specs.Said.{figures}
+use Rattle.wire.specs.declared.Said.{Said}
+use Rattle.gossip.specs.Tags.{not-this}
 use Rattle.wire.specs.Kinds.{sendKind}
-use Rattle.wire.specs.declared.Said.the-variants as said
-use Rattle.book.specs.Heard.{told, untold}
-use Rattle.book.proofs.Tags.{not-this}
 use Rattle.answering.specs.Answer.{doneBy, sendDone, badOn, refusalLong}
 use Rattle.answering.proofs.Owes.{same-done}
 use borrow.Author.Needs.{needs}
@@ -18,7 +22,7 @@ returns c =
     let s = c .before .before .before .before .before .before .before .before .before .args in
     let read = c .before .before .before .before .before .read-send in
     same-done (s .b .now) (s .out .now) _ _ _
-    (ap (λ (x : Bool). cond x (sendDone (s .b .now)) (doneBy refusalLong (badOn (s .b .now)))) (untold sendKind (s .msg .now) (read .result) (read .ensures) (not-this (read .result) said.Send 11 (0 ∷ 1 ∷ 2 ∷ 3 ∷ 4 ∷ 5 ∷ 6 ∷ 7 ∷ 8 ∷ 9 ∷ 10 ∷ 12 ∷ []) refl tt (c .before .before .before .before .match .keys2))))
+    (ap (λ (x : Bool). cond x (sendDone (s .b .now)) (doneBy refusalLong (badOn (s .b .now)))) (untold sendKind (s .msg .now) (read .result) (read .ensures) (not-this _ _ (c .before .before .before .before .match .keys2) tt)))
     (c .before .before .answer-bad .ensures)
 
 returns-2 : tie.Need-returns-2
@@ -26,7 +30,7 @@ returns-2 c =
     let s = c .before .before .before .before .before .before .before .before .before .before .args in
     let read = c .before .before .before .before .before .before .read-send in
     same-done (s .b .now) (s .out .now) _ _ _
-    (ap (λ (x : Bool). cond x (sendDone (s .b .now)) (doneBy refusalLong (badOn (s .b .now)))) (told sendKind (s .msg .now) (read .result) (read .ensures) (not-this (read .result) (said.Unreadable 1) 12 (11 ∷ []) refl tt (c .before .before .before .before .before .match .keys1)) .0))
+    (ap (λ (x : Bool). cond x (sendDone (s .b .now)) (doneBy refusalLong (badOn (s .b .now)))) (is-true (readable sendKind (s .msg .now)) (told sendKind (s .msg .now) (read .result) (read .ensures) (omega (arith, ap (λ (v : Said). length (figures v)) (c .before .before .before .before .enum-told .given .1))) .0)))
     (c .before .before .answer-send .ensures)
 
 pub answer-other-spec : {M : Type 1} → statement M

@@ -1,10 +1,8 @@
 -- `answering::open_from` meets its contract. Assumes nothing.
-use mathlib.Core.Path.{refl, sym, _∙_}
-use mathlib.Core.List.{[], _∷_}
+use mathlib.Core.Path.{sym, _∙_}
 use Rattle.wire.specs.Kinds.{openKind}
-use Rattle.wire.specs.Read.{lineOf}
-use Rattle.book.specs.Heard.{untold}
-use Rattle.book.proofs.Tags.{not-this}
+use Rattle.wire.specs.ReadLaws.{untold}
+use Rattle.gossip.specs.Tags.{not-this}
 use Rattle.answering.proofs.Owes.{opens-long, opens-unread, opens-read}
 use borrow.Author.Needs.{needs}
 use Rattle.answering.proofs.open_from.Statement.{statement}
@@ -20,7 +18,7 @@ returns-2 c =
     let read = c .before .read-open in
     opens-unread (s .b .now) (s .msg .now) (c .before .before .if1 .left)
     (untold openKind (s .msg .now) (read .result) (read .ensures)
-    (not-this (read .result) (openKind .said (lineOf openKind (s .msg .now))) 10 (0 ∷ 1 ∷ 2 ∷ 3 ∷ 4 ∷ 5 ∷ 6 ∷ 7 ∷ 8 ∷ 9 ∷ 11 ∷ 12 ∷ []) refl tt (c .match .keys2)))
+    (not-this _ _ (c .match .keys2) tt))
 
 returns-3 : tie.Need-returns-3
 returns-3 c =

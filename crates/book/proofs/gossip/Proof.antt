@@ -1,17 +1,17 @@
 -- `book::gossip` meets its contract. Assumes nothing.
-use mathlib.Core.Path.{_≡_, refl, sym, subst, _∙_}
+use mathlib.Core.Path.{_≡_, sym, subst, _∙_}
 use mathlib.Core.Bool.{true}
-use mathlib.Core.List.{[], _∷_}
 use lib.Dec.{T}
 use borrow.Author.Needs.{needs}
 use borrow.Author.Tests.{not-true, not-false}
 use Rattle.wire.specs.Kinds.{headKind}
-use Rattle.gossip.specs.Message.{headLine, wellFormed, messageOf}
+use Rattle.gossip.specs.Message.{wellFormed, messageOf}
+use Rattle.gossip.specs.Tags.{not-this}
+use Rattle.gossip.specs.Told.{gossip-untold}
 use Rattle.meaning.specs.Step.{gossipStep}
 use Rattle.layout.specs.Words.{bookOf, lawful}
 use Rattle.answers.specs.Lent.{hearGossip, gossipOn}
-use Rattle.book.specs.Heard.{owes-unsound, owes-unread, untold-gossip, gossip-heard, gossip-owes}
-use Rattle.book.proofs.Tags.{not-this}
+use Rattle.book.specs.Heard.{owes-unsound, owes-unread, gossip-heard, gossip-owes}
 use Rattle.book.proofs.gossip.Statement.{statement}
 use Rattle.book.proofs.gossip.Tie as tie
 
@@ -31,8 +31,8 @@ returns-2 c =
     let e = c .before .before in
     let s = e .before .before .before .before .before .args in
     owes-unread (s .b .now) (sound-now e) (wellFormed (s .msg .now))
-    (untold-gossip (s .msg .now) (c .before .read-gossip .result) (c .before .read-gossip .ensures)
-    (not-this (c .before .read-gossip .result) (headKind .said (headLine (s .msg .now))) 0 (1 ∷ 2 ∷ 3 ∷ 4 ∷ 5 ∷ 6 ∷ 7 ∷ 8 ∷ 9 ∷ 10 ∷ 11 ∷ 12 ∷ []) refl tt (c .match .keys2)))
+    (gossip-untold (s .msg .now) (c .before .read-gossip .result) (c .before .read-gossip .ensures)
+    (not-this _ _ (c .match .keys2) tt))
     (gossipStep (bookOf (s .b .now)) (messageOf (s .msg .now)))
 
 take-gossip-requires : tie.Need-take-gossip-requires

@@ -1,22 +1,21 @@
 -- `book::question` meets its contract. Assumes nothing.
-use Prim.Native.Nat.{ℕ}
 use native.Mathlib.Omega.{arith}
-use mathlib.Core.Path.{_≡_, refl, sym, subst, _∙_}
+use mathlib.Core.Path.{_≡_, sym, subst, _∙_}
 use mathlib.Core.Bool.{true}
-use mathlib.Core.List.{[], _∷_}
 use lib.Dec.{T}
-use lib.ListN.{length, getD}
+use lib.ListN.{getD}
 use borrow.Author.Needs.{needs}
 use borrow.Author.Tests.{not-true, not-false}
 use Rattle.wire.specs.Kinds.{questionKind, stampAt}
 use Rattle.wire.specs.Read.{lineOf, readable}
+use Rattle.wire.specs.ReadLaws.{untold}
+use Rattle.gossip.specs.Tags.{not-this}
 use Rattle.meaning.specs.Step.{ask}
 use Rattle.layout.specs.SoundWords.{lawful-held}
 use Rattle.layout.specs.Words.{bookOf, lawful}
 use Rattle.moves.specs.Places.{held-long}
 use Rattle.answers.specs.Lent.{hearQuestion, questionOn}
-use Rattle.book.specs.Heard.{owes-unsound, owes-unread, untold, question-fits, question-owes}
-use Rattle.book.proofs.Tags.{not-this}
+use Rattle.book.specs.Heard.{owes-unsound, owes-unread, question-fits, question-owes}
 use Rattle.book.proofs.question.Statement.{statement}
 use Rattle.book.proofs.question.Tie as tie
 
@@ -44,7 +43,7 @@ returns-2 c =
     let line = lineOf k (s .msg .now) in
     owes-unread (s .b .now) (sound-now e) (readable k (s .msg .now))
     (untold k (s .msg .now) (c .before .read-question .result) (c .before .read-question .ensures)
-    (not-this (c .before .read-question .result) (k .said line) 3 (0 ∷ 1 ∷ 2 ∷ 4 ∷ 5 ∷ 6 ∷ 7 ∷ 8 ∷ 9 ∷ 10 ∷ 11 ∷ 12 ∷ []) refl tt (c .match .keys2)))
+    (not-this _ _ (c .match .keys2) tt))
     (ask (bookOf (s .b .now)) (getD line 1 0) (stampAt 2 line))
 
 ask-book-requires : tie.Need-ask-book-requires

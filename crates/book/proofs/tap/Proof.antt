@@ -1,21 +1,20 @@
 -- `book::tap` meets its contract. Assumes nothing.
 use native.Mathlib.Omega.{arith}
-use mathlib.Core.Path.{_≡_, refl, sym, subst, _∙_}
+use mathlib.Core.Path.{_≡_, sym, subst, _∙_}
 use mathlib.Core.Bool.{true}
-use mathlib.Core.List.{[], _∷_}
 use lib.Dec.{T}
-use lib.ListN.{length}
 use borrow.Author.Needs.{needs}
 use borrow.Author.Tests.{not-true, not-false}
 use Rattle.wire.specs.Kinds.{tapKind, tapAt, stampAt}
 use Rattle.wire.specs.Read.{lineOf, readable}
+use Rattle.wire.specs.ReadLaws.{untold}
+use Rattle.gossip.specs.Tags.{not-this}
 use Rattle.meaning.specs.Step.{tapStep}
 use Rattle.layout.specs.SoundWords.{lawful-held}
 use Rattle.layout.specs.Words.{bookOf, lawful}
 use Rattle.moves.specs.Places.{held-long}
 use Rattle.answers.specs.Lent.{hearTap, tapOn}
-use Rattle.book.specs.Heard.{owes-unsound, owes-unread, untold, tap-fits, tap-owes}
-use Rattle.book.proofs.Tags.{not-this}
+use Rattle.book.specs.Heard.{owes-unsound, owes-unread, tap-fits, tap-owes}
 use Rattle.book.proofs.tap.Statement.{statement}
 use Rattle.book.proofs.tap.Tie as tie
 
@@ -43,7 +42,7 @@ returns-2 c =
     let line = lineOf k (s .msg .now) in
     owes-unread (s .b .now) (sound-now e) (readable k (s .msg .now))
     (untold k (s .msg .now) (c .before .read-tap .result) (c .before .read-tap .ensures)
-    (not-this (c .before .read-tap .result) (k .said line) 2 (0 ∷ 1 ∷ 3 ∷ 4 ∷ 5 ∷ 6 ∷ 7 ∷ 8 ∷ 9 ∷ 10 ∷ 11 ∷ 12 ∷ []) refl tt (c .match .keys2)))
+    (not-this _ _ (c .match .keys2) tt))
     (tapStep (bookOf (s .b .now)) (tapAt 1 line) (stampAt 6 line))
 
 take-tap-requires : tie.Need-take-tap-requires

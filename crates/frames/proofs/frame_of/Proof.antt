@@ -9,7 +9,7 @@ use Rattle.wire.specs.Returns.{failed, passed}
 use Rattle.wire.specs.declared.Body.{Body}
 use Rattle.wire.specs.declared.Body.the-variants.{Long, Bad}
 use Rattle.frames.specs.Frame.{expected, bodyFrame}
-use Rattle.frames.specs.FrameLaws.{body-few}
+use Rattle.wire.specs.Laws.{body-few}
 use Rattle.frames.specs.declared.Frame.the-variants.{Stop}
 use Rattle.frames.proofs.Lines.{nothing, unexpected, gossips, others}
 use borrow.Author.Needs.{needs}

@@ -8,8 +8,8 @@ use borrow.Author.Needs.{needs}
 use Rattle.stamp.specs.Parts.{listOf}
 use Rattle.wire.specs.Returns.{failed, passed}
 use Rattle.wire.specs.Kinds.{recordKind}
+use Rattle.gossip.specs.Tags.{not-this}
 use Rattle.gossip.specs.Message.{partsOf, inOrder}
-use Rattle.gossip.proofs.Answers.{no-record}
 use Rattle.gossip.proofs.Turn.{risesFrom, pass-start, pass-unread, pass-falls, pass-on, pass-end}
 use Rattle.gossip.proofs.in_order.Statement.{statement}
 use Rattle.gossip.proofs.in_order.Tie as tie
@@ -27,11 +27,12 @@ loop-holds c =
     (omega arith, pass-start (s .n) (listOf (s .m)) (partsOf (s .count) (s .msg .now)))
 
 returns : tie.Need-returns Inv-loop μ-loop
+unfolding recordKind
 returns c =
     let r = c .before in
     let l = r .before .before in
     let s = l .before .before .args in
-    sym (l .loop .inv .1 ∙ pass-unread (s .n) (listOf (s .m)) (s .count) (s .msg .now) (l .loop .i) (omega arith) _ (r .record-at .result) (r .record-at .ensures) (no-record (r .record-at .result) (c .match .keys2)))
+    sym (l .loop .inv .1 ∙ pass-unread (s .n) (listOf (s .m)) (s .count) (s .msg .now) (l .loop .i) (omega arith) _ (r .record-at .result) (r .record-at .ensures) (not-this _ _ (c .match .keys2) tt))
 
 returns-2 : tie.Need-returns-2 Inv-loop μ-loop
 returns-2 c =

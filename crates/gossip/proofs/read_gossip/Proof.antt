@@ -3,9 +3,10 @@ use Prim.Native.Nat.{_≤_}
 use native.Mathlib.Omega.{arith}
 use mathlib.Core.Path.{sym, _∙_}
 use borrow.Author.Needs.{needs}
+use Rattle.wire.specs.Kinds.{headKind}
+use Rattle.wire.specs.ReadLaws.{untold}
 use Rattle.wire.specs.Returns.{failed, passed}
-use Rattle.gossip.specs.Parts.{head-untold}
-use Rattle.gossip.proofs.Answers.{no-head}
+use Rattle.gossip.specs.Tags.{not-this}
 use Rattle.gossip.proofs.Lines.{too-short, headless, wrong-long, disorder, whole, few}
 use Rattle.gossip.proofs.read_gossip.Statement.{statement}
 use Rattle.gossip.proofs.read_gossip.Tie as tie
@@ -14,10 +15,11 @@ returns : tie.Need-returns
 returns c = too-short (c .before .before .args .msg .now) (c .if1 .taken)
 
 returns-2 : tie.Need-returns-2
+unfolding headKind
 returns-2 c =
     let r = c .before in
     let s = r .before .before .before .before .args in
-    headless (s .msg .now) (head-untold _ (r .read-head .result) (r .read-head .ensures) (no-head (r .read-head .result) (c .match .keys2)))
+    headless (s .msg .now) (untold headKind _ (r .read-head .result) (r .read-head .ensures) (not-this _ _ (c .match .keys2) tt))
 
 -- at most 256 records
 bounded : (c : tie.After-known-told) → c .before .head .given .0 .1 .1 .0 ≤ 256

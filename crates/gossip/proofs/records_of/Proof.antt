@@ -6,21 +6,22 @@ use lib.Dec.{T}
 use lib.ListN.{length}
 use borrow.Author.Needs.{needs}
 use Rattle.lists.specs.Part.{mid}
+use Rattle.wire.specs.Kinds.{headKind}
 use Rattle.wire.specs.declared.Said.the-variants as said
+use Rattle.gossip.specs.Tags.{not-this}
 use Rattle.gossip.specs.Message.{headLong, recordLong, countIn, partsOf, recordParts, wellFormed}
 use Rattle.gossip.specs.Find.{placeOf}
 use Rattle.gossip.specs.FindLaws.{end-part, none-refused, start-refused, place-next, found, none-found, start-some, start-none}
 use Rattle.gossip.specs.Told.{gossip-told, gossip-untold, head-count, well-long}
-use Rattle.gossip.proofs.Answers.{no-head}
 use Rattle.gossip.proofs.records_of.Statement.{statement}
 use Rattle.gossip.proofs.records_of.Tie as tie
 
 returns : tie.Need-returns
-unfolding mid
+unfolding mid headKind
 returns c =
     let r = c .before .before in
     let s = r .before .before .args in
-    let e = gossip-untold (s .msg .now) (r .read-gossip .result) (r .read-gossip .ensures) (no-head (r .read-gossip .result) (c .before .match .keys2)) in
+    let e = gossip-untold (s .msg .now) (r .read-gossip .result) (r .read-gossip .ensures) (not-this _ _ (c .before .match .keys2) tt) in
     (end-part (s .msg .now) ∙ sym (none-refused (s .origin) (s .msg .now) e), (refl, rw (start-refused (s .origin) (s .msg .now) e) (omega arith)))
 
 -- past the `let`: the message is well formed, and its count is the head's
@@ -28,13 +29,13 @@ well : (c : tie.After-known-told) → T (wellFormed (c .before .before .before .
 well c =
     let h = c .before in
     let r = h .before .before in
-    gossip-told (r .before .before .args .msg .now) (said.Head _ _ _ _) (sym (h .head .given .1) ∙ r .read-gossip .ensures) refl .0
+    gossip-told (r .before .before .args .msg .now) (said.Head _ _ _ _) (sym (h .head .given .1) ∙ r .read-gossip .ensures) (omega arith) .0
 
 counted : (c : tie.After-known-told) → countIn (c .before .before .before .before .before .args .msg .now) ≡ c .before .head .given .0 .1 .1 .0
 counted c =
     let h = c .before in
     let r = h .before .before in
-    head-count (r .before .before .args .msg .now) _ _ _ _ (gossip-told (r .before .before .args .msg .now) (said.Head _ _ _ _) (sym (h .head .given .1) ∙ r .read-gossip .ensures) refl .1)
+    head-count (r .before .before .args .msg .now) _ _ _ _ (gossip-told (r .before .before .args .msg .now) (said.Head _ _ _ _) (sym (h .head .given .1) ∙ r .read-gossip .ensures) (omega arith) .1)
 
 fits : (c : tie.After-known-told) → headLong + c .before .head .given .0 .1 .1 .0 * recordLong ≤ length (c .before .before .before .before .before .args .msg .now)
 fits c = omega (arith, counted c, well-long (c .before .before .before .before .before .args .msg .now) (well c))

@@ -1,5 +1,5 @@
 -- `gossip_moves::take_new` meets its contract. Assumes nothing.
-use Prim.Native.Nat.{ℕ, _+_, _<_}
+use Prim.Native.Nat.{ℕ, _+_}
 use native.Mathlib.Omega.{arith}
 use mathlib.Core.Path.{ap, _∙_}
 use mathlib.Core.List.{List}
@@ -9,7 +9,7 @@ use Rattle.ledger.specs.Log.{unknowns}
 use Rattle.gossip.specs.Message.{recordsIn}
 use Rattle.layout.specs.Words.{bookOf}
 use Rattle.moves.specs.Places.{held-long, log-count}
-use Rattle.gossip_moves.proofs.Put.{log-taken}
+use Rattle.moves.specs.LogPut.{log-taken}
 use borrow.Author.Needs.{needs}
 use Rattle.gossip_moves.proofs.take_new.Statement.{statement}
 use Rattle.gossip_moves.proofs.take_new.Tie as tie

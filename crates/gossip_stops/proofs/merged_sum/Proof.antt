@@ -1,5 +1,4 @@
 -- `gossip_stops::merged_sum` meets its contract. Assumes nothing.
-use Prim.Native.Nat.{_<_}
 use native.Mathlib.Omega.{arith}
 use mathlib.Core.Path.{sym, ap, subst, _∙_}
 use lib.Dec.{T, ltb}
@@ -8,8 +7,8 @@ use Rattle.lists.specs.Tests.{every}
 use Rattle.stamp.specs.Limits.{parts, word}
 use Rattle.stamp.specs.Laws.{length-merge}
 use Rattle.stamp.specs.Parts.{listOf}
+use Rattle.stamp.specs.PartsLaws.{whole-stamp}
 use Rattle.stamp.specs.Stamp.{Stamp, merge, total}
-use Rattle.gossip_stops.proofs.Lines.{whole-stamp}
 use borrow.Author.Needs.{needs}
 use Rattle.gossip_stops.proofs.merged_sum.Statement.{statement}
 use Rattle.gossip_stops.proofs.merged_sum.Tie as tie

@@ -1,11 +1,12 @@
 -- `gossip_stops::stamp_refusal` meets its contract. Assumes nothing.
-use Prim.Native.Nat.{ℕ, _<_}
+use Prim.Native.Nat.{ℕ}
 use native.Mathlib.Omega.{arith}
 use mathlib.Core.Path.{_≡_, sym, ap, subst, _∙_}
 use mathlib.Core.Logic.{_≢_}
 use lib.Dec.{T, ltb}
 use lib.ListN.{length, getD}
 use Rattle.lists.specs.Tests.{every}
+use Rattle.stamp.specs.Laws.{fits-long}
 use Rattle.stamp.specs.Limits.{word}
 use Rattle.stamp.specs.Stamp.{Stamp, merge, stampFits}
 use Rattle.meaning.specs.Book.{known}
@@ -14,7 +15,7 @@ use Rattle.layout.specs.SoundWords.{lawful-sound, lawful-held}
 use Rattle.layout.specs.Words.{bookOf}
 use Rattle.moves.specs.Places.{held-long, me-small}
 use Rattle.gossip_stops.specs.Refusals.{rowRefusal, ownRefusal}
-use Rattle.gossip_stops.proofs.Lines.{eight-parts, me-word, screens-word, merged-words, other-house, from-self, by-row, by-own}
+use Rattle.gossip_stops.proofs.Lines.{me-word, screens-word, merged-words, other-house, from-self, by-row, by-own}
 use borrow.Author.Needs.{needs}
 use Rattle.gossip_stops.proofs.stamp_refusal.Statement.{statement}
 use Rattle.gossip_stops.proofs.stamp_refusal.Tie as tie
@@ -58,7 +59,7 @@ row-refusal-requires : tie.Need-row-refusal-requires
 row-refusal-requires c κs =
     let s = c .before .before .before .before .before .before .before .before in
     let e : length (c .before .row-of .result) ≡ 8 = search needs in
-    e ∙ sym (eight-parts (s .args .screens) (s .args .m .now) (s .pre .1 .1))
+    e ∙ sym (fits-long (s .args .screens) (s .args .m .now) (s .pre .1 .1))
 
 returns-3 : tie.Need-returns-3
 returns-3 c =
@@ -83,7 +84,7 @@ own-refusal-requires c κs =
     let ws = s .args .b .now in
     let e : length (k .known-of .result) ≡ 8 = search needs in
     let fit = subst (λ (n : ℕ). T (stampFits n (s .args .m .now))) (at-home t) (s .pre .1 .1) in
-    ((e, eight-parts (s .args .screens) (s .args .m .now) (s .pre .1 .1), me-small ws (lawful-held ws (s .pre .0)) (me-in (bookOf ws) (lawful-sound ws (s .pre .0)))), subst (λ (x : Stamp). T (every (λ y. ltb y word) (merge x (s .args .m .now)))) (sym (k .known-of .ensures)) (merged-words ws (s .pre .0) (s .args .m .now) fit))
+    ((e, fits-long (s .args .screens) (s .args .m .now) (s .pre .1 .1), me-small ws (lawful-held ws (s .pre .0)) (me-in (bookOf ws) (lawful-sound ws (s .pre .0)))), subst (λ (x : Stamp). T (every (λ y. ltb y word) (merge x (s .args .m .now)))) (sym (k .known-of .ensures)) (merged-words ws (s .pre .0) (s .args .m .now) fit))
 
 returns-4 : tie.Need-returns-4
 returns-4 c =

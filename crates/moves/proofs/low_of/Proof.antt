@@ -2,8 +2,9 @@
 use native.Mathlib.Omega.{arith}
 use mathlib.Core.Path.{ap, _∙_}
 use Rattle.stamp.specs.Parts.{listOf}
+use Rattle.stamp.specs.PartsLaws.{whole-stamp}
 use Rattle.moves.specs.Places.{held-long, screens-most}
-use Rattle.moves.proofs.Turn.{whole-stamp, table-rows}
+use Rattle.moves.proofs.Turn.{table-rows}
 use borrow.Author.Needs.{needs}
 use Rattle.moves.proofs.low_of.Statement.{statement}
 use Rattle.moves.proofs.low_of.Tie as tie

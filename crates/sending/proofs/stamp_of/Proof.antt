@@ -1,9 +1,10 @@
 -- `sending::stamp_of` meets its contract. Assumes nothing.
+use Rattle.stamp.specs.Limits.{parts}
+use Rattle.stamp.specs.PartsLaws.{whole-stamp}
 use Rattle.meaning.specs.Book.{known}
 use Rattle.meaning.specs.BookLaws.{me-in, known-fits}
 use Rattle.layout.specs.SoundWords.{lawful-sound, lawful-held}
 use Rattle.layout.specs.Words.{bookOf}
-use Rattle.sending.specs.Lines.{eight-parts}
 use borrow.Author.Needs.{needs}
 use Rattle.sending.proofs.stamp_of.Statement.{statement}
 use Rattle.sending.proofs.stamp_of.Tie as tie
@@ -14,11 +15,12 @@ known-of-requires c κs =
     (lawful-held (s .args .b .now) (s .pre), me-in (bookOf (s .args .b .now)) (lawful-sound (s .args .b .now) (s .pre)))
 
 returns : tie.Need-returns
+unfolding parts
 returns c =
     let k = c .before .before in
     let s = k .before .before in
     let ws = s .args .b .now in
-    rw (c .parts-at .ensures, k .known-of .ensures) (eight-parts (known (bookOf ws)) (known-fits (bookOf ws) (lawful-sound ws (s .pre)) .long))
+    rw (c .parts-at .ensures, k .known-of .ensures) (whole-stamp (known (bookOf ws)) (known-fits (bookOf ws) (lawful-sound ws (s .pre)) .long))
 
 pub stamp-of-spec : {M : Type 1} → statement M
 stamp-of-spec =

@@ -8,9 +8,10 @@ use lib.ListN.{take, drop}
 use borrow.Author.Tests.{not-true, not-false}
 use Rattle.lists.specs.Facts.{all-at}
 use Rattle.lists.specs.Rows.{rows}
+use Rattle.stamp.specs.Laws.{fits-long, fits-words}
 use Rattle.stamp.specs.Limits.{parts}
 use Rattle.soundness.specs.Clauses.{fitRules, pieceRules}
-use Rattle.soundness.proofs.Turn.{fits-long, fits-words, row-fits}
+use Rattle.soundness.proofs.Turn.{row-fits}
 use borrow.Author.Needs.{needs}
 use Rattle.soundness.proofs.pieces_sound.Statement.{statement}
 use Rattle.soundness.proofs.pieces_sound.Tie as tie

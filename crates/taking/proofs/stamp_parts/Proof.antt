@@ -1,8 +1,8 @@
 -- `taking::stamp_parts` meets its contract. Assumes nothing.
 use mathlib.Core.Path.{ap, _∙_}
 use Rattle.stamp.specs.Parts.{listOf}
+use Rattle.stamp.specs.PartsLaws.{whole-stamp}
 use borrow.Author.Needs.{needs}
-use Rattle.taking.proofs.Turn.{whole-stamp}
 use Rattle.taking.proofs.stamp_parts.Statement.{statement}
 use Rattle.taking.proofs.stamp_parts.Tie as tie
 

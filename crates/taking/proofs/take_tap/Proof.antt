@@ -25,9 +25,10 @@ use Rattle.meaning.specs.StepLaws.{TapDone, tap-out}
 use Rattle.layout.specs.SoundWords.{lawful-sound, lawful-held}
 use Rattle.layout.specs.Words.{bookOf, wordsOf}
 use Rattle.moves.specs.Places.{noRecord, held-long, log-count}
+use Rattle.answers.specs.LentLaws.{owes}
 use borrow.Author.Needs.{needs}
 use Rattle.taking.proofs.Found.{tap-found, first-stamp}
-use Rattle.taking.proofs.Lines.{owes, stopped, line-3, line-counted, line-logged, line-7, line-9, line-taken, passed}
+use Rattle.taking.proofs.Lines.{stopped, line-3, line-counted, line-logged, line-7, line-9, line-taken, passed}
 use Rattle.taking.proofs.take_tap.Statement.{statement}
 use Rattle.taking.proofs.take_tap.Tie as tie
 

@@ -4,31 +4,24 @@ use Prim.Native.Nat.{_≤_}
 use native.Mathlib.Omega.{arith}
 use mathlib.Core.Path.{_≡_, ap}
 use mathlib.Core.List.{List, []}
-use lib.Dec.{T}
 use lib.ListN.{length, getD}
-use Rattle.lists.specs.Facts.{_∈_, either, every-from}
-use Rattle.lists.specs.MoreFacts.{eq→eqb}
-use Rattle.lists.specs.Tests.{every}
-use Rattle.stamp.specs.Limits.{parts}
+use Rattle.lists.specs.Facts.{_∈_}
 use Rattle.stamp.specs.Stamp.{Stamp, part}
 use Rattle.tally.specs.Standing.{countAll}
-use Rattle.tally.specs.Tap.{bodyFits}
 use Rattle.ledger.specs.Limits.{bookRoom}
 use Rattle.ledger.specs.Log.{gathered, newlyApplied}
 use Rattle.ledger.specs.LogLaws.{put-log, same-place}
-use Rattle.ledger.specs.Record.{Record, place, recordFits}
-use Rattle.ledger.specs.RecordLaws.{obeys}
-use Rattle.log.specs.RegionLaws.{eightParts}
+use Rattle.ledger.specs.Record.{Record}
 use Rattle.log_moves.specs.Merge.{Fresh}
 use Rattle.meaning.specs.Book.{Book, known, row}
 use Rattle.meaning.specs.BookLaws.{Sound}
-use Rattle.meaning.specs.SettleLaws.{settle-sound}
+use Rattle.meaning.specs.SettleLaws.{gathered-obeys, settle-sound}
 use Rattle.meaning.specs.SettleLaws as meaning
 use Rattle.meaning.specs.Step.{settle, nowApplied, nowCounted, tapsOf}
-use Rattle.layout.specs.SoundWords.{sound-shape}
+use Rattle.layout.specs.SoundWords.{eight-each, sound-shape}
 use Rattle.layout.specs.With.{withTable, withLog}
 use Rattle.layout.specs.WordsLaws.{Shape}
 use Rattle.moves.specs.Ready.{Ready}
 
 module _ (b : Book) (rows : List Stamp) (new : List Record) (s : Sound b) (y : meaning.Ready b rows new) where
   -- new records are at no place of the log: they are not known, and its records are
@@ -55,13 +48,6 @@ module _ (b : Book) (rows : List Stamp) (new : List Record) (s : Sound b) (y : m
         prompts-long = o .prompts-long;
       }
 
-  gathered-obeys : (r : Record) → r ∈ gathered new (b .log) → T (recordFits bodyFits (b .screens) r)
-  gathered-obeys r m = either (put-log new (b .log) .from r m) (λ n. y .obey r n) (λ n. s .log-obeys r n)
-
-  gathered-eight : T (every eightParts (gathered new (b .log)))
-  unfolding eightParts parts
-  gathered-eight = every-from eightParts (gathered new (b .log)) (λ r m. eq→eqb (length (r .label)) 8 (obeys bodyFits (b .screens) r (gathered-obeys r m) .label-fits .long))
-
   pub log-shape : Shape (withLog (gathered new (b .log)) (withTable rows b))
   log-shape =
       let o = rows-shape in
@@ -71,7 +57,7 @@ module _ (b : Book) (rows : List Stamp) (new : List Record) (s : Sound b) (y : m
         rows-wide = o .rows-wide;
         value-long = o .value-long;
         log-few = omega (arith, put-log new (b .log) .long, y .space);
-        log-eight = gathered-eight;
+        log-eight = eight-each (b .screens) (gathered new (b .log)) (gathered-obeys b rows new s y);
         counted-few = o .counted-few;
         counted-fit = o .counted-fit;
         prompts-long = o .prompts-long;
@@ -89,6 +75,6 @@ module _ (b : Book) (rows : List Stamp) (new : List Record) (s : Sound b) (y : m
         shape = log-shape;
         order = s .counted-order;
         follow = s .follow;
-        obey = gathered-obeys;
+        obey = gathered-obeys b rows new s y;
         room = counted-room;
       }
