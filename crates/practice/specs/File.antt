@@ -12,6 +12,11 @@ use Rattle.practice.specs.declared.file.Field.the-variants.{Stands, Brok
 use Rattle.practice.specs.declared.file.Entry.{Entry}
 use Rattle.practice.specs.declared.file.Entry.the-variants.{Vector, Last, Cut}
 
+-- room for the whole file
+abbrev pub fileRoom : ℕ
+fileRoom = 900_001
+
+-- a part lies within the file
 abbrev pub Within : Part → List ℕ → Type 0
 Within p file = (p .start ≤ p .end) × (p .end ≤ length file)
 

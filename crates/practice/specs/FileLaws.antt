@@ -3,15 +3,15 @@
 --     entry-within    and so do a vector's three, one behind the other
 use Prim.Native.Nat.{ℕ, _+_, _-_, _≤_, _<_}
 use native.Mathlib.Omega.{arith}
-use mathlib.Core.Path.{_≡_, refl, sym, subst}
+use mathlib.Core.Path.{_≡_, refl, subst}
 use mathlib.Core.Bool.{Bool, true, false, cond}
 use mathlib.Core.List.{List}
-use borrow.Author.Tests.{ltb-true, ltb-false, lt-ltb, le-ltb, eq-eqb, ne-eqb}
+use borrow.Author.Tests.{ltb-false, lt-ltb, le-ltb, eq-eqb, ne-eqb}
 use lib.Dec.{eqb, ltb}
 use lib.ListN.{length}
 use Rattle.lists.specs.Part.{mid}
 use Rattle.bigendian.specs.Number.{numberOf}
-use Rattle.practice.specs.File.{Within, longestField, fieldOf, fieldAt, onField, entryAt}
+use Rattle.practice.specs.File.{Within, longestField, fieldAt, onField, entryAt}
 use Rattle.practice.specs.declared.file.Part.{Part}
 use Rattle.practice.specs.declared.file.Field.{Field}
 use Rattle.practice.specs.declared.file.Field.the-variants.{Stands, Broken}

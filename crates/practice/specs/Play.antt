@@ -6,7 +6,6 @@ use mathlib.Core.Option.{Option, none, some}
 use lib.Dec.{ltb}
 use lib.ListN.{length, take, drop}
 use Rattle.meaning.specs.Reply.{Reply, refusal}
-use Rattle.answers.specs.Lent.{Opened}
 use Rattle.frames.specs.Frame.{frameOf}
 use Rattle.frames.specs.declared.Frame.{Frame}
 use Rattle.frames.specs.declared.Frame.the-variants.{More, Whole, Stop}
@@ -14,10 +13,6 @@ use Rattle.speech.specs.Speech.{bytesFor}
 use Rattle.answering.specs.Answer.{doneOn, openFrom}
 use Rattle.practice.specs.declared.play.Next.{Next}
 use Rattle.practice.specs.declared.play.Next.the-variants.{Message, Broken}
-
--- the words of a book
-abbrev pub bookWords : ℕ
-bookWords = 4108
 
 -- an unexpected kind, a count above 256, or an end inside a message
 abbrev pub nextBy : Frame → ℕ → Next

@@ -1,14 +1,16 @@
 -- Laws of the small program in memory. Assumes nothing.
---     reply-front, refusal-front     a reply stands whole at the front of an output that has room for the longest
---     next-within                    a message has at least one byte, and lies within what is left
---     said-end, said-broken, said-turn    what is said to what is left, by its next message
---     opening-says                   open's refusals can be written
+--     reply-front, refusal-front                  a reply stands whole at the front of an output that has room for the longest
+--     next-within                                 a message has at least one byte, and lies within what is left
+--     said-end, said-broken, said-turn            what is said to what is left, by its next message
+--     follow-broken, follow-within, follow-turn   the same, compared
+--     begin-broken, begin-refused, begin-follows  what is said to a whole input, by its kind 11
+--     opening-says                                open's refusals can be written
 use Prim.Native.Nat.{ℕ, zero, suc, _+_, _-_, _≤_, _<_}
 use native.Mathlib.Omega.{arith}
 use mathlib.Core.Path.{_≡_, refl, sym, ap, ap₂, subst, _∙_}
 use mathlib.Core.Bool.{Bool, true, false, cond}
 use mathlib.Core.List.{List, [], _∷_, _++_}
-use mathlib.Core.Option.{Option, none, some}
+use mathlib.Core.Option.{none, some}
 use borrow.Author.Tests.{ltb-false}
 use lib.Dec.{T, eqb, ltb}
 use lib.ListN.{length, getD, take, drop, length-append, length-drop}
@@ -46,7 +48,8 @@ pub record Front (says : List ℕ) (n : ℕ) (before after : List ℕ) : Type 0 
   pub same : length after ≡ length before
   pub stands : take n after ≡ says
 
-said-front : (says : List ℕ) (n : ℕ) (before after : List ℕ) → length says ≤ length before → n ≡ length says → after ≡ says ++ drop (length says) before → Front says n before after
+said-front : (says : List ℕ) (n : ℕ) (before after : List ℕ) → length says ≤ length before → n ≡ length says
+    → after ≡ says ++ drop (length says) before → Front says n before after
 said-front says n before after h e f =
     let all : length after ≡ length before = omega (arith, ap length f, length-append says (drop (length says) before), length-drop (length says) before) in
     let whole : take n after ≡ says = ap (take n) f ∙ take-at says (drop (length says) before) n (sym e) in
@@ -113,8 +116,12 @@ more-turns zero (suc g) ws (x ∷ left) h k = absurd (omega arith)
 more-turns (suc f) zero ws [] h k = refl
 more-turns (suc f) zero ws (x ∷ left) h k = absurd (omega arith)
 more-turns (suc f) (suc g) ws [] h k = refl
-more-turns (suc f) (suc g) ws (x ∷ left) h k = go (λ n e. let b = next-within true (x ∷ left) n e in more-turns f g (doneOn ws (take n (x ∷ left)) .words) (drop n (x ∷ left)) (omega (arith, b .0, length-drop n (x ∷ left))) (omega (arith, b .0, length-drop n (x ∷ left)))) (nextIn true (x ∷ left)) refl
+more-turns (suc f) (suc g) ws (x ∷ left) h k =
+    go (λ n e. more-turns f g (doneOn ws (take n (x ∷ left)) .words) (drop n (x ∷ left)) (fewer f n e h) (fewer g n e k)) (nextIn true (x ∷ left)) refl
   where
+    fewer : (m n : ℕ) → nextIn true (x ∷ left) ≡ Message n → length (x ∷ left) ≤ suc m → length (drop n (x ∷ left)) ≤ m
+    fewer m n e l = omega (arith, next-within true (x ∷ left) n e .0, length-drop n (x ∷ left))
+
     says : ℕ → List ℕ
     says n = doneOn ws (take n (x ∷ left)) .says
 
@@ -142,15 +149,18 @@ module _ (ws : List ℕ) where
   unfolding saidTo
   said-turn [] n h e = absurd (omega arith)
   said-turn (x ∷ left) n h e =
-      let b = next-within true (x ∷ left) n e in
-      rw e (ap (λ (l : List ℕ). doneOn ws (take n (x ∷ left)) .says ++ l) (more-turns (length left) (length (drop n (x ∷ left))) (doneOn ws (take n (x ∷ left)) .words) (drop n (x ∷ left)) (omega (arith, b .0, length-drop n (x ∷ left))) (omega arith)))
+      let done = doneOn ws (take n (x ∷ left)) in
+      let after = drop n (x ∷ left) in
+      let fewer : length after ≤ length left = omega (arith, next-within true (x ∷ left) n e .0, length-drop n (x ∷ left)) in
+      rw e (ap (λ (l : List ℕ). done .says ++ l) (more-turns (length left) (length after) (done .words) after fewer (omega arith)))
 
 -- one turn of following an open book: the message is the part of the input from `at` on, and the replies so far end at `place`
 module _ (ws input expected : List ℕ) (at place : ℕ) (h : at < length input) where
   some-left : 0 < length (drop at input)
   some-left = omega (arith, length-drop at input)
 
-  pub follow-broken : Broken ≡ nextIn true (take (length input - at) (drop at input)) → comparedAt place (saidFrom ws (drop at input)) expected ≡ comparedAt place bad expected
+  pub follow-broken : Broken ≡ nextIn true (take (length input - at) (drop at input))
+      → comparedAt place (saidFrom ws (drop at input)) expected ≡ comparedAt place bad expected
   follow-broken e = ap (λ (l : List ℕ). comparedAt place l expected) (said-broken ws (drop at input) some-left (sym (e ∙ ap (nextIn true) (to-end at input))))
 
   module _ (n : ℕ) (e : Message n ≡ nextIn true (take (length input - at) (drop at input))) where
@@ -161,7 +171,8 @@ module _ (ws input expected : List ℕ) (at place : ℕ) (h : at < length input)
     follow-within = let b = next-within true (drop at input) n next in (b .0, omega (arith, b .1, length-drop at input))
 
     pub follow-turn :
-        (o : Outcome) (after : List ℕ) → o ≡ comparedAt place (doneOn ws (take (at + n - at) (drop at input)) .says) expected → after ≡ doneOn ws (take (at + n - at) (drop at input)) .words
+        (o : Outcome) (after : List ℕ) → o ≡ comparedAt place (doneOn ws (take (at + n - at) (drop at input)) .says) expected
+        → after ≡ doneOn ws (take (at + n - at) (drop at input)) .words
         → comparedAt place (saidFrom ws (drop at input)) expected ≡ thenAt o (saidFrom after (drop (at + n) input)) expected
     follow-turn o after p q =
         let k : at + n - at ≡ n = omega arith in
@@ -203,8 +214,12 @@ module _ (ws input : List ℕ) where
         let f : openFrom ws (take n input) .refused ≡ none = sym (o .answers) ∙ ap spokenOpening q in
         rw (← e, f, o .leaves)
 
-    pub begin-follows : (expected : List ℕ) (out : Outcome) → r ≡ opened.Opened → out ≡ comparedAt 0 (saidFrom words (take (length input - n) (drop n input))) expected → out ≡ comparedAt 0 (saidBy ws input) expected
-    begin-follows expected out q p = p ∙ ap (λ (l : List ℕ). comparedAt 0 (saidFrom words l) expected) (to-end n input) ∙ sym (ap (λ (l : List ℕ). comparedAt 0 l expected) (begin-opened q))
+    pub begin-follows :
+        (expected : List ℕ) (out : Outcome) → r ≡ opened.Opened → out ≡ comparedAt 0 (saidFrom words (take (length input - n) (drop n input))) expected
+        → out ≡ comparedAt 0 (saidBy ws input) expected
+    begin-follows expected out q p =
+        p ∙ ap (λ (l : List ℕ). comparedAt 0 (saidFrom words l) expected) (to-end n input)
+        ∙ sym (ap (λ (l : List ℕ). comparedAt 0 l expected) (begin-opened q))
 
     pub opening-says : (k : ℕ) → r ≡ opened.Refused k → T (sayable (refusal k))
     unfolding openFrom

@@ -52,10 +52,8 @@ fn field_at(file: &[u8], at: usize, width: usize) -> Field
     if file.len() - start < long as usize {
         return Field::Broken;
     }
-    Field::Stands(Part {
-        start: start,
-        end: start + long as usize,
-    })
+    let end = start + long as usize;
+    Field::Stands(Part { start, end })
 }
 
 // The vector, or the end, that stands at a place.
@@ -79,8 +77,8 @@ pub fn entry_at(file: &[u8], at: usize) -> Entry
         return Entry::Cut;
     };
     Entry::Vector {
-        name: name,
-        input: input,
-        output: output,
+        name,
+        input,
+        output,
     }
 }

@@ -10,11 +10,10 @@ use file::entry_at;
 use libc::STDOUT_FILENO;
 use play::play;
 ghost use mathlib.Core.Path.{_≡_};
-ghost use Prim.Native.Nat.{_≤_};
 ghost use lib.ListN.{length};
-ghost use Rattle.practice.specs.File.{Within};
+ghost use Rattle.practice.specs.File.{Within, fileRoom};
 
-// More bytes than any file of vectors has.
+// Room for the longest file of vectors, and a byte more.
 const FILE_ROOM: usize = 900001;
 
 // A vector's line; whether it agrees.
@@ -98,7 +97,7 @@ fn try_all(file: &[u8]) {
 
 // Its contract gives only the length, so that no proof looks at each of the zeros.
 fn room() -> [u8; FILE_ROOM]
-    ensures { λ r. ⌜ 900001 ≡ length r ⌝ }
+    ensures { λ r. ⌜ fileRoom ≡ length r ⌝ }
 {
     [0; FILE_ROOM]
 }

@@ -17,10 +17,11 @@ ghost use Prim.Native.Nat.{_≤_};
 ghost use lib.Dec.{T};
 ghost use lib.ListN.{length, replicate};
 ghost use Rattle.meaning.specs.Reply.{refusal};
+ghost use Rattle.layout.specs.Words.{bookLong};
 ghost use Rattle.speech.specs.Speech.{bytesFor, sayable};
 ghost use Rattle.answering.specs.Answer.{doneOn, longest};
 ghost use Rattle.practice.specs.Compare.{comparedAt, outcomeOf};
-ghost use Rattle.practice.specs.Play.{nextIn, saidFrom, saidBy, bookWords};
+ghost use Rattle.practice.specs.Play.{nextIn, saidFrom, saidBy};
 
 // The longest reply: a head and 256 records.
 const LONGEST: usize = 12069;
@@ -111,7 +112,7 @@ fn begin(book: &mut [u64], input: &[u8], out: &mut [u8], expected: &[u8]) -> Out
 
 // The program on a fresh book: whether it writes exactly what is expected.
 pub fn play(input: &[u8], expected: &[u8]) -> Outcome
-    ensures { λ r. ⌜ r ≡ outcomeOf (saidBy (replicate bookWords 0) (now (input .entry))) (now (expected .entry)) ⌝ }
+    ensures { λ r. ⌜ r ≡ outcomeOf (saidBy (replicate bookLong 0) (now (input .entry))) (now (expected .entry)) ⌝ }
 {
     let mut book = [0u64; BOOK];
     let mut out = [0u8; LONGEST];

@@ -5,7 +5,7 @@ use mathlib.Core.Path.{sym, _∙_}
 use mathlib.Core.Logic.{⊎-elim}
 use lib.ListN.{length}
 use borrow.Author.Needs.{needs}
-use Rattle.practice.specs.FileLaws.{Lies, entry-within}
+use Rattle.practice.specs.FileLaws.{entry-within}
 use Rattle.practice.proofs.try_all.Statement.{statement}
 use Rattle.practice.proofs.try_all.Tie as tie
 

@@ -1,7 +1,7 @@
 -- `practice::compare::count_alike` meets its contract. The invariant: what is passed is the same, and the rest decides. Assumes nothing.
 use Prim.Native.Nat.{_≤_, _-_, _+_}
 use native.Mathlib.Omega.{arith}
-use mathlib.Core.Path.{_≡_, _∙_}
+use mathlib.Core.Path.{_≡_}
 use lib.ListN.{length, drop}
 use borrow.Author.Needs.{needs}
 use Rattle.practice.specs.Compare.{alike}

@@ -1,6 +1,4 @@
 -- `practice::file::field_at` meets its contract. Assumes nothing.
-use native.Mathlib.Omega.{arith}
-use mathlib.Core.Path.{_≡_}
 use borrow.Author.Needs.{needs}
 use Rattle.practice.specs.FileLaws.{field-short, field-long, field-past, field-stands}
 use Rattle.practice.proofs.file.field_at.Statement.{statement}

@@ -8,7 +8,7 @@ use borrow.Author.Needs.{needs}
 use Rattle.frames.specs.declared.Frame.{Frame}
 use Rattle.frames.specs.declared.Frame.the-variants.{More, Whole, Stop}
 use Rattle.practice.specs.Play.{nextBy, nextIn}
-use Rattle.practice.specs.declared.play.Next.the-variants.{Message, Broken}
+use Rattle.practice.specs.declared.play.Next.the-variants.{Broken}
 use Rattle.practice.proofs.play.next_message.Statement.{statement}
 use Rattle.practice.proofs.play.next_message.Tie as tie
 

@@ -1,5 +1,5 @@
 -- `practice::play::play` meets its contract. Assumes nothing.
-use mathlib.Core.Path.{_≡_, ap, _∙_}
+use mathlib.Core.Path.{ap, _∙_}
 use borrow.Author.Needs.{needs}
 use Rattle.practice.specs.Compare.{endedBy}
 use Rattle.practice.specs.declared.compare.Outcome.{Outcome}
