@@ -1,0 +1,6 @@
+pub mod Compare
+pub mod CompareLaws
+pub mod File
+pub mod FileLaws
+pub mod Play
+pub mod PlayLaws
