@@ -1,6 +1,7 @@
 #!/bin/sh
 # usage: test.sh [ARCHIVE]
-# Tests the host's crates and the C program against the proved library, by default ../target/staticlib/libconsent.a.
+# Tests the host's crates and the C program against the proved library, by default ../target/staticlib/libconsent.a, and the
+# program ../target/bin/screen.
 set -eu
 
 cd "$(dirname "$0")"
@@ -9,15 +10,22 @@ if [ ! -f "$archive" ]; then
     echo "There is no $archive. Run \`rt staticlib consent\` at the repository's top." >&2
     exit 1
 fi
+screen=../target/bin/screen
+if [ ! -x "$screen" ]; then
+    echo "There is no $screen. Run \`rt check screen\` at the repository's top." >&2
+    exit 1
+fi
 
-# The archive is for x86-64; on another processor its calls go through the toolchain's emulator.
+# Archive and program are for x86-64; on another processor they run in the toolchain's emulator.
 if [ "$(uname -m)" = x86_64 ]; then
     CONSENT_LIB_DIR=$(cd "$(dirname "$archive")" && pwd -P)
+    SCREEN_PROGRAM=$(readlink -f "$screen")
 else
-    ./emulated/build.sh "$archive" target/emulated
+    ./emulated/build.sh "$archive" "$screen" target/emulated
     CONSENT_LIB_DIR=$(cd target/emulated && pwd -P)
+    SCREEN_PROGRAM=$CONSENT_LIB_DIR/screen
 fi
-export CONSENT_LIB_DIR
+export CONSENT_LIB_DIR SCREEN_PROGRAM
 
 cargo test --offline --workspace
 
