@@ -6,7 +6,7 @@ use mathlib.Core.List.{List, _++_}
 use mathlib.Core.Option.{some}
 use lib.Dec.{eqb, ltb}
 use lib.ListN.{length, getD, drop}
-use Rattle.wire.specs.Kinds.{openKind, sendKind}
+use Rattle.wire.specs.Kinds.{openKind, sendKind, longest}
 use Rattle.wire.specs.Read.{lineOf, readable}
 use Rattle.wire.specs.declared.Written.{Written}
 use Rattle.wire.specs.declared.Written.the-variants.{Wrote, Refused}
@@ -77,9 +77,6 @@ pub record Answers (o : Answered) (long : ℕ) (words bytes : List ℕ) : Type 0
   pub writes : bytes ≡ o .bytes
 
 -- the room that is always enough for the reply, by the byte of kind
-abbrev pub longest : ℕ
-longest = 12_069
-
 unfoldable pub roomFor : List ℕ → ℕ
 roomFor bytes =
     cond (eqb (kindIn bytes) 1) gossipLong

@@ -13,10 +13,10 @@ use lib.Dec.{T, eqb, ltb}
 use lib.ListN.{length, drop}
 use Rattle.lists.specs.Facts.{is-true, and-l}
 use Rattle.ledger.specs.Limits.{logRoom}
-use Rattle.wire.specs.Kinds.{refusalKind, sendKind, inTable, bodyOf, isLong, shaped}
+use Rattle.wire.specs.Kinds.{refusalKind, sendKind, inTable, bodyOf, isLong, shaped, headLong, longest, recordLong}
 use Rattle.wire.specs.Read.{readable}
 use Rattle.wire.specs.Write.{writable}
-use Rattle.gossip.specs.Message.{bytesOf, headLong, recordLong}
+use Rattle.gossip.specs.Message.{bytesOf}
 use Rattle.gossip.specs.MessageLaws.{length-bytes-of}
 use Rattle.meaning.specs.BookLaws.{send-fits}
 use Rattle.meaning.specs.Reply.{Reply, taken, already, verdict, wait, refusal, gossiped, figures}
@@ -26,7 +26,7 @@ use Rattle.layout.specs.Words.{bookOf, wordsOf, lawful}
 use Rattle.answers.specs.Lent.{Lent, tapOn, questionOn, gossipOn}
 use Rattle.speech.specs.Speech.{bytesFor, sayable, longOf, tapLong, questionLong, gossipLong}
 use Rattle.speech.specs.SpeechLaws.{reply-long, tap-says, tap-long, question-says, question-long, gossip-says, gossip-long}
-use Rattle.answering.specs.Answer.{Done, doneBy, sendDone, badOn, refusalLong, otherDone, kindIn, doneOn, answerBy, answerOn, Answers, longest, roomFor}
+use Rattle.answering.specs.Answer.{Done, doneBy, sendDone, badOn, refusalLong, otherDone, kindIn, doneOn, answerBy, answerOn, Answers, roomFor}
 
 pub short : (d : Done) (ws out : List ℕ) → length out < d .room → Answers (answerBy d ws out) 0 ws out
 unfolding answerBy

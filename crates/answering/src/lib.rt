@@ -1,5 +1,6 @@
 // One whole message answered on a lent book, into a lent output; and the bytes that open a book.
 use answers::Reply;
+use answers::UNSOUND;
 use book::gossip;
 use book::open;
 use book::question;
@@ -7,14 +8,13 @@ use book::send;
 use book::tap;
 use layout::BOOK;
 use opening::Opening;
-use requests::HEAD_SIZE;
-use requests::RECORD_SIZE;
 use requests::read_open;
 use requests::read_send;
 use soundness::sound;
 use speech::speak;
 use wire::BAD;
 use wire::HEAD;
+use wire::LONGEST;
 use wire::QUESTION;
 use wire::SEND;
 use wire::SHORT;
@@ -32,22 +32,14 @@ ghost use Rattle.opening.specs.Opening.{Opens};
 ghost use Rattle.speech.specs.Speech.{bytesFor, sayable, tapLong, questionLong, gossipLong};
 ghost use Rattle.answering.specs.Answer.{doneBy, sendDone, badOn, refusalLong, otherDone, kindIn, answerBy, answerOn, Answers, roomFor, openFrom, longIn};
 
-// The lent book is unsound or of wrong length.
-const UNSOUND: u64 = 11;
-
-// The longest replies to gossip, a tap, a question and send, and to bytes that are no request.
+// The longest replies to gossip, a tap and a question, and to bytes that are no request.
 const GOSSIP_ROOM: usize = 5;
 
 const TAP_ROOM: usize = 33;
 
 const QUESTION_ROOM: usize = 44;
 
-const SEND_ROOM: usize = HEAD_SIZE + LOG_ROOM * RECORD_SIZE;
-
 const REFUSAL_ROOM: usize = 2;
-
-// Records in a log, and so in a message.
-const LOG_ROOM: usize = 256;
 
 // The byte of kind, 0 where there is none.
 fn kind_of(msg: &[u8]) -> u8
@@ -172,7 +164,7 @@ pub fn reply_room(msg: &[u8]) -> usize
         HEAD => GOSSIP_ROOM,
         TAP => TAP_ROOM,
         QUESTION => QUESTION_ROOM,
-        SEND => SEND_ROOM,
+        SEND => LONGEST,
         _ => REFUSAL_ROOM,
     }
 }

@@ -1,5 +1,6 @@
 // A question put to a sound book: refused, told to wait, or answered. The book doesn't change.
 use answers::Reply;
+use answers::UNKNOWN_LABEL;
 use layout::BOOK;
 use layout::PROMPTS;
 use layout::SCREEN;
@@ -30,9 +31,6 @@ ghost use Rattle.meaning.specs.Step.{ask};
 ghost use Rattle.layout.specs.Held.{Held};
 ghost use Rattle.layout.specs.Words.{bookOf, lawful};
 ghost use Rattle.answers.specs.Spoken.{spoken};
-
-// The label's part i exceeds the known stamp's.
-pub const UNKNOWN_LABEL: u64 = 3;
 
 // Whether the label's part i exceeds the known stamp's.
 pub fn label_unknown(b: &[u64], label: Parts) -> bool

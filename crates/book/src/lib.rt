@@ -1,5 +1,6 @@
 // The book on a lent slice: open, tap, question, send and gossip. Every entry judges its own arguments.
 use answers::Reply;
+use answers::UNSOUND;
 use asking::ask_book;
 use gossip::read_gossip;
 use gossiping::take_gossip;
@@ -17,9 +18,6 @@ use wire::Written;
 ghost use Rattle.answers.specs.Lent.{Promise, tapOn, questionOn, gossipOn, sendOn, openOn};
 ghost use Rattle.opening.specs.Opening.{Opens};
 ghost use Rattle.wire.specs.Write.{Meets};
-
-// The lent book is unsound or of wrong length.
-const UNSOUND: u64 = 11;
 
 // The fresh book of screen i of n, or the refusal's number.
 pub fn open(b: &mut [u64], i: u64, n: u64) -> Opening

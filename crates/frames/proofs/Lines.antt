@@ -7,8 +7,8 @@ use mathlib.Core.List.{List, [], _∷_}
 use borrow.Author.Tests.{eq-eqb, ne-eqb, lt-ltb, le-ltb}
 use lib.ListN.{length, getD}
 use Rattle.ledger.specs.Limits.{logRoom}
-use Rattle.wire.specs.Kinds.{bodyOf}
-use Rattle.frames.specs.Frame.{expected, countIn, countEnd, headLong, recordLong, gossipFrame, bodyFrame, kindFrame, frameOf}
+use Rattle.wire.specs.Kinds.{bodyOf, headLong, recordLong}
+use Rattle.frames.specs.Frame.{expected, countIn, countEnd, gossipFrame, bodyFrame, kindFrame, frameOf}
 use Rattle.frames.specs.declared.Frame.the-variants.{More, Whole, Stop}
 
 begun : (read : List ℕ) (opened : Bool) → (length read ≡ 0 → ⊥) → cond (expected opened (getD read 0 0)) (kindFrame (getD read 0 0) read) Stop ≡ frameOf read opened

@@ -7,7 +7,7 @@ use lib.ListN.{length}
 use Rattle.lists.specs.Part.{mid}
 use Rattle.bigendian.specs.Number.{numberOf}
 use Rattle.ledger.specs.Limits.{logRoom}
-use Rattle.wire.specs.Kinds.{bodyOf}
+use Rattle.wire.specs.Kinds.{bodyOf, headLong, recordLong}
 use Rattle.wire.specs.declared.Body.{Body}
 use Rattle.wire.specs.declared.Body.the-variants.{Long, Bad}
 use Rattle.frames.specs.declared.Frame.{Frame}
@@ -23,13 +23,6 @@ countIn read = numberOf (mid 3 2 read)
 
 abbrev pub countEnd : ℕ
 countEnd = 5
-
--- a head has 37 bytes, a record 47
-abbrev pub headLong : ℕ
-headLong = 37
-
-abbrev pub recordLong : ℕ
-recordLong = 47
 
 -- a gossip message is a head and then exactly count records, at most 256
 unfoldable pub gossipFrame : List ℕ → Frame

@@ -13,17 +13,13 @@ use lib.Dec.{T, eqb, ltb}
 use lib.ListN.{length, take}
 use Rattle.lists.specs.Part.{mid}
 use Rattle.ledger.specs.Limits.{logRoom}
-use Rattle.wire.specs.Kinds.{bodyOf}
+use Rattle.wire.specs.Kinds.{bodyOf, headLong, longest, recordLong}
 use Rattle.wire.specs.Laws.{body-few}
 use Rattle.wire.specs.declared.Body.{Body}
 use Rattle.wire.specs.declared.Body.the-variants.{Long, Bad}
 use Rattle.frames.specs.declared.Frame.{Frame}
 use Rattle.frames.specs.declared.Frame.the-variants.{More, Whole, Stop}
-use Rattle.frames.specs.Frame.{expected, countIn, countEnd, headLong, recordLong, gossipFrame, bodyFrame, frameOf}
-
--- the longest message: a head and 256 records
-abbrev pub longest : ℕ
-longest = 12_069
+use Rattle.frames.specs.Frame.{expected, countIn, countEnd, gossipFrame, bodyFrame, frameOf}
 
 -- the frame is told: no more bytes are asked for
 abbrev pub told : Frame → Bool

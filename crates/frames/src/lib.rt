@@ -1,11 +1,13 @@
 // How many bytes the next message has, as far as what is read so far tells.
 use bigendian::number_at;
+use ledger::LOG_ROOM;
 use wire::Body;
 use wire::HEAD;
-use wire::HEAD_BODY;
+use wire::HEAD_SIZE;
+use wire::KIND_SIZE;
 use wire::OPEN;
 use wire::QUESTION;
-use wire::RECORD_BODY;
+use wire::RECORD_SIZE;
 use wire::SEND;
 use wire::TAP;
 use wire::body_of;
@@ -19,22 +21,12 @@ pub enum Frame {
     Stop,
 }
 
-// The first byte tells the kind.
-const KIND_SIZE: usize = 1;
-
 // Where a gossip's head has its count, and how many bytes tell it.
 const COUNT_AT: usize = 3;
 
 const COUNT_WIDTH: usize = 2;
 
 const COUNT_END: usize = COUNT_AT + COUNT_WIDTH;
-
-// Records in a message.
-const LOG_ROOM: u64 = 256;
-
-const HEAD_SIZE: usize = KIND_SIZE + HEAD_BODY;
-
-const RECORD_SIZE: usize = KIND_SIZE + RECORD_BODY;
 
 // Kind 11 comes first, then kinds 1, 3, 4 and 12.
 fn is_expected(kind: u8, opened: bool) -> bool

@@ -11,12 +11,12 @@ use Rattle.lists.specs.Facts.{is-true, is-false, not-from}
 use Rattle.stamp.specs.declared.Parts.{Parts}
 use Rattle.stamp.specs.Parts.{listOf, partsAt}
 use Rattle.ledger.specs.Limits.{logRoom}
-use Rattle.wire.specs.Kinds.{headKind, recordKind}
+use Rattle.wire.specs.Kinds.{headKind, recordKind, headLong, recordLong}
 use Rattle.wire.specs.Laws.{length-readable, lawful-head}
 use Rattle.wire.specs.Read.{readable, readAs}
 use Rattle.wire.specs.ReadLaws.{told}
 use Rattle.wire.specs.declared.Said.the-variants as said
-use Rattle.gossip.specs.Message.{headLong, recordLong, headLine, countIn, partsOf, inOrder, wellFormed, readGossip}
+use Rattle.gossip.specs.Message.{headLine, countIn, partsOf, inOrder, wellFormed, readGossip}
 use Rattle.gossip.specs.Parts.{head-rules}
 use Rattle.gossip.specs.Told.{head-in, head-count}
 

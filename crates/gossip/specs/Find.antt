@@ -4,10 +4,11 @@ use mathlib.Core.Bool.{cond}
 use mathlib.Core.List.{List, []}
 use lib.Dec.{eqb, ltb}
 use lib.ListN.{length, getD}
+use Rattle.wire.specs.Kinds.{headLong, recordLong}
 use Rattle.lists.specs.Part.{mid}
 use Rattle.lists.specs.Rows.{flat}
 use Rattle.lists.specs.Tests.{keep}
-use Rattle.gossip.specs.Message.{headLong, recordLong, recordParts, wellFormed}
+use Rattle.gossip.specs.Message.{recordParts, wellFormed}
 
 -- the part that holds record i
 unfoldable pub partAt : ℕ → List ℕ → List ℕ

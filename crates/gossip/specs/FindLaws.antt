@@ -24,9 +24,9 @@ use Rattle.lists.specs.Tests.{every, keep}
 use Rattle.stamp.specs.Stamp.{Stamp}
 use Rattle.bigendian.specs.Number.{numberFrom}
 use Rattle.ledger.specs.Record.{place}
-use Rattle.wire.specs.Kinds.{recordKind}
+use Rattle.wire.specs.Kinds.{recordKind, headLong, recordLong}
 use Rattle.wire.specs.Read.{lineOf, readable}
-use Rattle.gossip.specs.Message.{headLong, recordLong, countIn, partsOf, recordParts, kindIn, screensIn, stampIn, held, recordsIn, inOrder, wellFormed}
+use Rattle.gossip.specs.Message.{countIn, partsOf, recordParts, kindIn, screensIn, stampIn, held, recordsIn, inOrder, wellFormed}
 use Rattle.gossip.specs.Find.{originOf, ofOrigin, recordsOf, below, placeOf, startOf}
 use Rattle.gossip.specs.Runs.{count-next, one-run}
 use Rattle.gossip.specs.Told.{well-long, well-order}

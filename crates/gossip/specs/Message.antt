@@ -11,18 +11,11 @@ use Rattle.stamp.specs.Stamp.{Stamp}
 use Rattle.tally.specs.Tap.{fields, tapOf}
 use Rattle.ledger.specs.Message.{Message}
 use Rattle.ledger.specs.Record.{Record, place}
-use Rattle.wire.specs.Kinds.{Kind, headKind, recordKind, recordIn, stampAt}
+use Rattle.wire.specs.Kinds.{Kind, headKind, recordKind, recordIn, stampAt, headLong, recordLong}
 use Rattle.wire.specs.Read.{lineOf, readable}
 use Rattle.wire.specs.Write.{written}
 use Rattle.wire.specs.declared.Said.{Said}
 use Rattle.wire.specs.declared.Said.the-variants as said
-
--- a head has 37 bytes, a record 47
-abbrev pub headLong : ℕ
-headLong = 37
-
-abbrev pub recordLong : ℕ
-recordLong = 47
 
 -- the head's line, and what it says
 unfoldable pub headLine : List ℕ → List ℕ

@@ -29,14 +29,14 @@ use Rattle.tally.specs.Tap.{bodyFits}
 use Rattle.ledger.specs.Limits.{logRoom}
 use Rattle.ledger.specs.Message.{Message, messageRules, messageFits}
 use Rattle.ledger.specs.Record.{Record, place, isKnown, recordFits}
-use Rattle.wire.specs.Kinds.{Kind, widths, headKind, recordKind, recordIn, stampAt}
+use Rattle.wire.specs.Kinds.{Kind, widths, headKind, recordKind, recordIn, stampAt, headLong, recordLong}
 use Rattle.wire.specs.Laws.{lawful-head, lawful-record, line-written, length-written, read-written, written-line}
 use Rattle.wire.specs.Read.{lineOf, readable}
 use Rattle.wire.specs.Write.{writable, written}
 use Rattle.gossip.specs.Find.{partAt}
 use Rattle.gossip.specs.FindLaws.{whole-bytes}
 use Rattle.gossip.specs.LineLaws.{said-line, record-line, line-record, record-writable, stamp-fits, house, head-stamp, head-writable}
-use Rattle.gossip.specs.Message.{headLong, recordLong, headLine, screensIn, countIn, stampIn, partsOf, recordParts, kindIn, held, recordsIn, messageOf, inOrder, wellFormed, headOf, lineFor, bytesOf}
+use Rattle.gossip.specs.Message.{headLine, screensIn, countIn, stampIn, partsOf, recordParts, kindIn, held, recordsIn, messageOf, inOrder, wellFormed, headOf, lineFor, bytesOf}
 use Rattle.gossip.specs.Parts.{length-parts, part-at, head-rules, part-rules}
 use Rattle.gossip.specs.Told.{well-head, well-order}
 

@@ -18,9 +18,9 @@ use Rattle.tally.specs.Tap.{tapFits, bodyFits}
 use Rattle.ledger.specs.Limits.{logRoom}
 use Rattle.ledger.specs.Message.{inRange}
 use Rattle.ledger.specs.Record.{recordFits, isKnown}
-use Rattle.wire.specs.Kinds.{headKind, recordKind, recordIn, stampAt, tapAt, shaped}
+use Rattle.wire.specs.Kinds.{headKind, recordKind, recordIn, stampAt, tapAt, shaped, headLong, recordLong}
 use Rattle.wire.specs.Read.{lineOf, readable}
-use Rattle.gossip.specs.Message.{headLong, recordLong, partsOf, held}
+use Rattle.gossip.specs.Message.{partsOf, held}
 use Rattle.gossip.specs.Find.{partAt}
 
 pub length-parts : (n : ℕ) (bytes : List ℕ) → length (partsOf n bytes) ≡ n

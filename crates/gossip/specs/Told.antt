@@ -14,14 +14,14 @@ use lib.ListN.{length, take}
 use Rattle.lists.specs.Facts.{and-l, and-r, is-true}
 use Rattle.stamp.specs.declared.Parts.{Parts}
 use Rattle.stamp.specs.Parts.{listOf, partsAt}
-use Rattle.wire.specs.Kinds.{headKind, recordKind}
+use Rattle.wire.specs.Kinds.{headKind, recordKind, headLong, recordLong}
 use Rattle.wire.specs.Laws.{lawful-head}
 use Rattle.wire.specs.Read.{readable, readAs}
 use Rattle.wire.specs.ReadLaws.{answered, unanswered, told-line}
 use Rattle.wire.specs.Said.{figures}
 use Rattle.wire.specs.declared.Said.{Said}
 use Rattle.wire.specs.declared.Said.the-variants as said
-use Rattle.gossip.specs.Message.{headLong, recordLong, headLine, countIn, recordParts, kindIn, inOrder, wellFormed, readGossip}
+use Rattle.gossip.specs.Message.{headLine, countIn, recordParts, kindIn, inOrder, wellFormed, readGossip}
 
 module _ (bytes : List ℕ) (w : T (wellFormed bytes)) where
   pub well-head : T (readable headKind (take headLong bytes))

@@ -1,11 +1,11 @@
 // The gossip message: its reader, and its records as parts of it.
 use bigendian::wide;
-use requests::HEAD_SIZE;
-use requests::RECORD_SIZE;
 use requests::read_head;
 use requests::read_record;
 use stamp::Parts;
 use wire::BAD;
+use wire::HEAD_SIZE;
+use wire::RECORD_SIZE;
 use wire::Said;
 ghost use mathlib.Core.Path.{_≡_};
 ghost use mathlib.Core.List.{_∷_, []};
@@ -13,9 +13,9 @@ ghost use Prim.Native.Nat.{_+_, _*_, _≤_};
 ghost use lib.ListN.{length};
 ghost use Rattle.lists.specs.Order.{keyBefore};
 ghost use Rattle.stamp.specs.Parts.{listOf};
-ghost use Rattle.wire.specs.Kinds.{recordKind};
+ghost use Rattle.wire.specs.Kinds.{recordKind, headLong, recordLong};
 ghost use Rattle.wire.specs.Read.{readAs};
-ghost use Rattle.gossip.specs.Message.{headLong, recordLong, partsOf, inOrder, readGossip};
+ghost use Rattle.gossip.specs.Message.{partsOf, inOrder, readGossip};
 ghost use Rattle.gossip.specs.Find.{partAt, originOf, below, placeOf, startOf, recordsOf};
 
 // Where a record's origin stands.

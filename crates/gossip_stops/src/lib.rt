@@ -1,7 +1,13 @@
 // Why a gossip is refused by its head alone: its screens and sender, then its stamp.
+use answers::AHEAD;
+use answers::CROSSED;
+use answers::OLD;
+use answers::SPENT;
+use answers::WRONG_HOUSE;
 use layout::SCREEN;
 use layout::SCREENS;
 use layout::TABLE;
+use ledger::BOOK_ROOM;
 use moves::known_of;
 use stamp::PARTS;
 use stamp::at_most;
@@ -24,20 +30,6 @@ ghost use Rattle.gossip_stops.specs.Refusals.{rowRefusal, ownRefusal, st
 
 // No refusal has this number.
 pub const NONE: u64 = 0;
-
-// The refusals' numbers, in the order in which they are looked for.
-const OTHER_HOUSE: u64 = 2;
-
-const OLD: u64 = 4;
-
-const CROSSED: u64 = 5;
-
-const AHEAD: u64 = 6;
-
-const SPENT: u64 = 7;
-
-// How many records a book may know.
-const BOOK_ROOM: u64 = 1024;
 
 // Row j of the table.
 fn row_of(b: &[u64], j: usize) -> [u64; PARTS]
@@ -95,11 +87,11 @@ pub fn stamp_refusal(b: &[u64], sender: u64, screens: u64, m: &[u64]) -> u64
     ensures { λ r. ⌜ r ≡ stampRefusal (bookOf (now (b .entry))) sender screens (now (m .entry)) ⌝ }
 {
     if screens != b[SCREENS] {
-        return OTHER_HOUSE;
+        return WRONG_HOUSE;
     }
     let me = b[SCREEN];
     if sender == me {
-        return OTHER_HOUSE;
+        return WRONG_HOUSE;
     }
     let row = row_of(b, sender as usize);
     let first = row_refusal(&row, m);

@@ -1,10 +1,13 @@
 // A gossip on the lent book: refused in the paper's order, or taken in place.
+use answers::GAP;
+use answers::NO_ROOM;
 use answers::Reply;
 use gossip_moves::raise_rows;
 use gossip_moves::take_new;
 use gossip_stops::NONE;
 use gossip_stops::stamp_refusal;
 use layout::LOGGED;
+use ledger::LOG_ROOM;
 use moves::known_of;
 use moves::settle_book;
 use newcomers::look_at;
@@ -25,14 +28,6 @@ ghost use Rattle.answers.specs.Lent.{Promise};
 ghost use Rattle.answers.specs.LentLaws.{lentOf};
 ghost use Rattle.gossip_stops.specs.Refusals.{stampRefusal};
 ghost use Rattle.gossiping.specs.Heard.{Heard};
-
-// Refusals by the records: one is missing, or the log has no room for the new ones.
-const GAP: u64 = 8;
-
-const NO_ROOM: u64 = 9;
-
-// How many records a log holds.
-const LOG_ROOM: usize = 256;
 
 // What a gossip does that nothing stops, `before` being the known stamp and `new` the number of its new records. Gives how many
 // records became applied.
@@ -72,7 +67,7 @@ fn take_records(b: &mut [u64], j: usize, msg: &[u8], count: usize, n: usize, m: 
     if !look.whole {
         return Reply::Refused(GAP);
     }
-    if LOG_ROOM < b[LOGGED] as usize + look.new {
+    if b[LOGGED] as usize + look.new > LOG_ROOM as usize {
         return Reply::Refused(NO_ROOM);
     }
     let applied = take_in(b, j, look.new, msg, count, n, m, &before);

@@ -1,4 +1,10 @@
 // The book on a lent slice: where each of its pieces stands.
+use ledger::BOOK_ROOM;
+use ledger::LOG_ROOM;
+use ledger::MOST;
+use log::ROW;
+use prompts::PROMPT_WORDS;
+use stamp::PARTS;
 
 // Screen i, and N.
 pub const SCREEN: usize = 0;
@@ -14,15 +20,15 @@ pub const COUNTED_TAPS: usize = 3;
 pub const TABLE: usize = 4;
 
 // The value stamp.
-pub const VALUE: usize = 68;
+pub const VALUE: usize = TABLE + MOST as usize * PARTS;
 
-pub const LOG: usize = 76;
+pub const LOG: usize = VALUE + PARTS;
 
 // The counted taps.
-pub const COUNTED: usize = 2892;
+pub const COUNTED: usize = LOG + LOG_ROOM as usize * ROW;
 
 // The prompts' standings.
-pub const PROMPTS: usize = 3916;
+pub const PROMPTS: usize = COUNTED + BOOK_ROOM as usize;
 
 // The whole book's length.
-pub const BOOK: usize = 4108;
+pub const BOOK: usize = PROMPTS + PROMPT_WORDS;

@@ -24,14 +24,14 @@ use Rattle.ledger.specs.Record.{Record, place, isKnown}
 use Rattle.log.specs.Region.{stampLong}
 use Rattle.log.specs.Held.{climbed, climb, holdsAll, climb-holds}
 use Rattle.log_moves.specs.OrderLaws.{keep-append}
-use Rattle.wire.specs.Kinds.{Kind, recordKind, tapAt}
+use Rattle.wire.specs.Kinds.{Kind, recordKind, tapAt, headLong, recordLong}
 use Rattle.wire.specs.Laws.{lawful-record}
 use Rattle.wire.specs.Read.{lineOf, readable, readAs}
 use Rattle.wire.specs.ReadLaws.{told-line}
 use Rattle.wire.specs.declared.Said.{Said}
 use Rattle.wire.specs.declared.Said.the-variants as said
 use Rattle.gossip.specs.Find.{partAt}
-use Rattle.gossip.specs.Message.{headLong, recordLong, countIn, kindIn, recordParts, held, recordsIn, inOrder, wellFormed}
+use Rattle.gossip.specs.Message.{countIn, kindIn, recordParts, held, recordsIn, inOrder, wellFormed}
 use Rattle.gossip.specs.MessageLaws.{length-records, record-held}
 use Rattle.gossip.specs.Parts.{part-rules}
 use Rattle.gossip.specs.Tags.{tagIn, othersThan, not-this}

@@ -1,4 +1,6 @@
 // Open: the fresh book of screen i of N on a lent slice.
+use answers::UNSOUND;
+use answers::WRONG_HOUSE;
 use layout::BOOK;
 use layout::SCREEN;
 use layout::SCREENS;
@@ -13,11 +15,6 @@ pub enum Opening {
     Opened,
     Refused(u64),
 }
-
-// Another N than 2 to 8 or i not below it; the lent book is of wrong length.
-const RANGE: u64 = 2;
-
-const LENGTH: u64 = 11;
 
 // Every word zero.
 fn clear(b: &mut [u64])
@@ -35,10 +32,10 @@ pub fn open_book(b: &mut [u64], i: u64, n: u64) -> Opening
     ensures { λ r. ⌜ Opens (openOn (now (b .entry)) i n) r (now (b .exit)) ⌝ }
 {
     if b.len() != BOOK {
-        return Opening::Refused(LENGTH);
+        return Opening::Refused(UNSOUND);
     }
     if !in_range(i, n) {
-        return Opening::Refused(RANGE);
+        return Opening::Refused(WRONG_HOUSE);
     }
     clear(b);
     b[SCREEN] = i;

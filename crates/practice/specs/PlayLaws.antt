@@ -15,7 +15,7 @@ use borrow.Author.Tests.{ltb-false}
 use lib.Dec.{T, eqb, ltb}
 use lib.ListN.{length, getD, take, drop, length-append, length-drop}
 use lib.Seq.{take-at, drop-drop}
-use Rattle.wire.specs.Kinds.{openKind, refusalKind, inTable}
+use Rattle.wire.specs.Kinds.{openKind, refusalKind, inTable, longest}
 use Rattle.wire.specs.Read.{lineOf, readable}
 use Rattle.wire.specs.Write.{Output, Meets, writable}
 use Rattle.wire.specs.declared.Written.{Written}
@@ -32,7 +32,7 @@ use Rattle.frames.specs.declared.Frame.{Frame}
 use Rattle.frames.specs.declared.Frame.the-variants.{More, Whole, Stop}
 use Rattle.speech.specs.Speech.{bytesFor, sayable, sayOn}
 use Rattle.speech.specs.SpeechLaws.{says-front, reply-long, open-says}
-use Rattle.answering.specs.Answer.{Done, kindIn, doneOn, answerOn, Answers, longest, roomFor, openFrom}
+use Rattle.answering.specs.Answer.{Done, kindIn, doneOn, answerOn, Answers, roomFor, openFrom}
 use Rattle.answering.specs.AnswerLaws.{front, within, unsound-says}
 use Rattle.practice.specs.Compare.{comparedAt}
 use Rattle.practice.specs.CompareLaws.{to-end, thenAt, compared-append}

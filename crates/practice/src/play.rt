@@ -11,20 +11,19 @@ use layout::BOOK;
 use opening::Opening;
 use speech::speak;
 use wire::BAD;
+use wire::LONGEST;
 use wire::Written;
 ghost use mathlib.Core.Path.{_≡_};
 ghost use Prim.Native.Nat.{_≤_};
 ghost use lib.Dec.{T};
 ghost use lib.ListN.{length, replicate};
+ghost use Rattle.wire.specs.Kinds.{longest};
 ghost use Rattle.meaning.specs.Reply.{refusal};
 ghost use Rattle.layout.specs.Words.{bookLong};
 ghost use Rattle.speech.specs.Speech.{bytesFor, sayable};
-ghost use Rattle.answering.specs.Answer.{doneOn, longest};
+ghost use Rattle.answering.specs.Answer.{doneOn};
 ghost use Rattle.practice.specs.Compare.{comparedAt, outcomeOf};
 ghost use Rattle.practice.specs.Play.{nextIn, saidFrom, saidBy};
-
-// The longest reply: a head and 256 records.
-const LONGEST: usize = 12069;
 
 // The next message has so many bytes; or what is left starts with no whole message of an expected kind.
 enum Next {

@@ -1,5 +1,6 @@
 // Requests: what a screen is sent, each kind with its reader and its writer. A gossip message is a head and then records.
 use fields::read_fields;
+use ledger::LOG_ROOM;
 use ledger::in_range;
 use stamp::Parts;
 use stamp::part_of;
@@ -10,13 +11,14 @@ use tally::fits;
 use tally::prompt_fits;
 use wire::BAD;
 use wire::HEAD;
-use wire::HEAD_BODY;
+use wire::HEAD_SIZE;
+use wire::KIND_SIZE;
 use wire::OPEN;
 use wire::OPEN_BODY;
 use wire::QUESTION;
 use wire::QUESTION_BODY;
 use wire::RECORD;
-use wire::RECORD_BODY;
+use wire::RECORD_SIZE;
 use wire::SEND;
 use wire::SEND_BODY;
 use wire::Said;
@@ -45,37 +47,33 @@ const HEAD_LINE: usize = 12;
 
 const HEAD_WIDTHS: [usize; HEAD_LINE] = [1, 1, 1, 2, 4, 4, 4, 4, 4, 4, 4, 4];
 
-pub const HEAD_SIZE: usize = 1 + HEAD_BODY;
-
 const RECORD_LINE: usize = 16;
 
 const RECORD_WIDTHS: [usize; RECORD_LINE] = [1, 1, 4, 4, 4, 4, 4, 4, 4, 4, 4, 1, 4, 1, 2, 1];
-
-pub const RECORD_SIZE: usize = 1 + RECORD_BODY;
 
 const TAP_LINE: usize = 14;
 
 const TAP_WIDTHS: [usize; TAP_LINE] = [1, 1, 4, 1, 2, 1, 4, 4, 4, 4, 4, 4, 4, 4];
 
-const TAP_SIZE: usize = 1 + TAP_BODY;
+const TAP_SIZE: usize = KIND_SIZE + TAP_BODY;
 
 const QUESTION_LINE: usize = 10;
 
 const QUESTION_WIDTHS: [usize; QUESTION_LINE] = [1, 1, 4, 4, 4, 4, 4, 4, 4, 4];
 
-const QUESTION_SIZE: usize = 1 + QUESTION_BODY;
+const QUESTION_SIZE: usize = KIND_SIZE + QUESTION_BODY;
 
 const OPEN_LINE: usize = 3;
 
 const OPEN_WIDTHS: [usize; OPEN_LINE] = [1, 1, 1];
 
-const OPEN_SIZE: usize = 1 + OPEN_BODY;
+const OPEN_SIZE: usize = KIND_SIZE + OPEN_BODY;
 
 const SEND_LINE: usize = 1;
 
 const SEND_WIDTHS: [usize; SEND_LINE] = [1];
 
-const SEND_SIZE: usize = 1 + SEND_BODY;
+const SEND_SIZE: usize = KIND_SIZE + SEND_BODY;
 
 // Where the fields stand in a line: a stamp takes eight places, a tap five.
 const FIRST: usize = 1;
@@ -94,9 +92,7 @@ const TAP_LABEL: usize = 6;
 
 const QUESTION_LABEL: usize = 2;
 
-// How many records a message has at most, and where numbers start.
-const LOG_ROOM: u64 = 256;
-
+// Where numbers start.
 const FIRST_NUMBER: u64 = 1;
 
 // The tap that stands in a line from a place on.

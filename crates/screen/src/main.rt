@@ -10,10 +10,8 @@ use libc::STDOUT_FILENO;
 use opening::Opening;
 use speech::speak;
 use wire::BAD;
+use wire::LONGEST;
 use wire::Written;
-
-// The longest message: a head and 256 records.
-const LONGEST: usize = 12069;
 
 // What comes next: a whole message of so many bytes, the end between messages, or bytes that stop the program.
 enum Next {

@@ -17,7 +17,7 @@ use Rattle.tally.specs.declared.Tap.{Tap}
 use Rattle.ledger.specs.Message.{messageFits}
 use Rattle.ledger.specs.Record.{Record}
 use Rattle.log.specs.Region.{rowLong, recordAt}
-use Rattle.wire.specs.Kinds.{Kind, size, headKind, recordKind}
+use Rattle.wire.specs.Kinds.{Kind, size, headKind, recordKind, headLong, recordLong}
 use Rattle.wire.specs.Returns.{meets}
 use Rattle.wire.specs.Said.{figures}
 use Rattle.wire.specs.Write.{Meets, writable, written, writeAs}
@@ -25,7 +25,7 @@ use Rattle.wire.specs.declared.Said.the-variants as said
 use Rattle.wire.specs.declared.Written.{Written}
 use Rattle.wire.specs.declared.Written.the-variants.{Wrote, Refused}
 use Rattle.gossip.specs.LineLaws.{head-writable}
-use Rattle.gossip.specs.Message.{headLong, recordLong, headOf, lineFor, bytesOf}
+use Rattle.gossip.specs.Message.{headOf, lineFor, bytesOf}
 use Rattle.gossip.specs.MessageLaws.{records-writable, length-bytes-of}
 use Rattle.meaning.specs.Book.{known}
 use Rattle.meaning.specs.BookLaws.{send-fits}

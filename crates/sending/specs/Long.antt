@@ -17,10 +17,10 @@ use Rattle.lists.specs.Rows.{flat}
 use Rattle.tally.specs.Tap.{bodyFits}
 use Rattle.ledger.specs.Message.{Message, messageFits}
 use Rattle.ledger.specs.Record.{Record}
-use Rattle.wire.specs.Kinds.{headKind, recordKind}
+use Rattle.wire.specs.Kinds.{headKind, recordKind, headLong, recordLong}
 use Rattle.wire.specs.Laws.{length-written}
 use Rattle.wire.specs.Write.{written}
-use Rattle.gossip.specs.Message.{headLong, recordLong, headOf, lineFor, bytesOf}
+use Rattle.gossip.specs.Message.{headOf, lineFor, bytesOf}
 use Rattle.gossip.specs.MessageLaws.{head-long, records-writable, length-bytes-of}
 use Rattle.sending.specs.Parts.{recordBytes, startOf, withHead, withRecords}
 

@@ -5,9 +5,9 @@ use lib.ListN.{take, drop}
 use Rattle.lists.specs.Rows.{flat}
 use Rattle.ledger.specs.Message.{Message}
 use Rattle.ledger.specs.Record.{Record}
-use Rattle.wire.specs.Kinds.{headKind, recordKind}
+use Rattle.wire.specs.Kinds.{headKind, recordKind, headLong, recordLong}
 use Rattle.wire.specs.Write.{written}
-use Rattle.gossip.specs.Message.{headLong, recordLong, headOf, lineFor}
+use Rattle.gossip.specs.Message.{headOf, lineFor}
 
 -- a record's bytes in a message
 unfoldable pub recordBytes : Message → Record → List ℕ

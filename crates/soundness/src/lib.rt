@@ -12,6 +12,9 @@ use layout::SCREEN;
 use layout::SCREENS;
 use layout::TABLE;
 use layout::VALUE;
+use ledger::BOOK_ROOM;
+use ledger::LOG_ROOM;
+use ledger::MOST;
 use ledger::in_range;
 use log::BODY;
 use log::ROW;
@@ -52,14 +55,6 @@ ghost use Rattle.meaning.specs.Book.{countedIn};
 ghost use Rattle.layout.specs.Words.{shaped, lawful};
 ghost use Rattle.soundness.specs.Clauses.{fitRules, withinRules, logRules, countedRules, regionRules, pieceRules};
 ghost use Rattle.soundness.specs.Cut.{Places, Numbers, cutRules};
-
-// The most screens of a house.
-const MOST: u64 = 8;
-
-// Records in a log, and records that a book may know.
-const LOG_ROOM: u64 = 256;
-
-const BOOK_ROOM: u64 = 1024;
 
 // Whether the part from a to e is zero from its k-th word on.
 fn zero_past(b: &[u64], a: usize, e: usize, k: usize) -> bool

@@ -1,6 +1,8 @@
 // A tap on a sound book: refused, known already, or taken. What is refused or known already alters no word.
+use answers::NO_ROOM;
 use answers::Reply;
-use asking::UNKNOWN_LABEL;
+use answers::SPENT;
+use answers::UNKNOWN_LABEL;
 use asking::label_unknown;
 use asking::value_parts;
 use layout::COUNTED;
@@ -11,6 +13,8 @@ use layout::PROMPTS;
 use layout::SCREEN;
 use layout::TABLE;
 use layout::VALUE;
+use ledger::BOOK_ROOM;
+use ledger::LOG_ROOM;
 use log::NUMBER;
 use log::ROW;
 use log::find_body;
@@ -53,16 +57,6 @@ ghost use Rattle.layout.specs.Words.{bookOf, wordsOf, lawful};
 ghost use Rattle.moves.specs.Places.{noRecord};
 ghost use Rattle.answers.specs.Lent.{Promise};
 ghost use Rattle.answers.specs.LentLaws.{lentOf};
-
-// The book knows as many records as it may; the log has no room.
-const SPENT: u64 = 7;
-
-const NO_ROOM: u64 = 9;
-
-// How many records a book may know, and how many its log may hold.
-const BOOK_ROOM: u64 = 1024;
-
-const LOG_ROOM: usize = 256;
 
 // Whether the tap of w is counted.
 fn is_counted(b: &[u64], w: u64) -> bool
@@ -218,7 +212,7 @@ pub fn take_tap(b: &mut [u64], tap: Tap, label: Parts) -> Reply
     if is_spent(b) {
         return Reply::Refused(SPENT);
     }
-    if LOG_ROOM <= n {
+    if n >= LOG_ROOM as usize {
         return Reply::Refused(NO_ROOM);
     }
     Reply::Taken(enter(b, w, label))

@@ -137,6 +137,16 @@ bodies = (1, 36) ∷ (2, 46) ∷ (3, 41) ∷ (4, 33) ∷ (5, 32) ∷ (6, 32) ∷
 unfoldable pub bodyOf : ℕ → Body
 bodyOf k = lookup k bodies
 
+-- a gossip head has 37 bytes, a record 47; the longest message is a head and 256 records
+abbrev pub headLong : ℕ
+headLong = 37
+
+abbrev pub recordLong : ℕ
+recordLong = 47
+
+abbrev pub longest : ℕ
+longest = 12_069
+
 -- the bytes are of this kind and of its length
 abbrev pub isLong : Body → ℕ → Bool
 isLong (Long n) long = eqb long (1 + n)

@@ -1,6 +1,7 @@
 // The wire's kinds of message: what each says, how long it is, and the two steps that every reader and writer takes.
 use fields::fields_fit;
 use fields::put_fields;
+use ledger::LOG_ROOM;
 use stamp::Parts;
 use tally::Tap;
 ghost use mathlib.Core.Path.{_≡_};
@@ -113,6 +114,15 @@ pub const OPEN_BODY: usize = 2;
 pub const SEND: u8 = 12;
 
 pub const SEND_BODY: usize = 0;
+
+// A message is one byte of kind and its body. A gossip message is a head and then records, at most as many as a log holds.
+pub const KIND_SIZE: usize = 1;
+
+pub const HEAD_SIZE: usize = KIND_SIZE + HEAD_BODY;
+
+pub const RECORD_SIZE: usize = KIND_SIZE + RECORD_BODY;
+
+pub const LONGEST: usize = HEAD_SIZE + LOG_ROOM as usize * RECORD_SIZE;
 
 // The two refusals of readers and writers: no message of the kind, or a broken field rule; the output is too short.
 pub const BAD: u64 = 1;

@@ -4,8 +4,9 @@ use native.Mathlib.Omega.{arith}
 use mathlib.Core.Path.{_≡_, sym, _∙_}
 use lib.ListN.{drop}
 use borrow.Author.Needs.{needs}
+use Rattle.wire.specs.Kinds.{headLong, recordLong}
 use Rattle.lists.specs.Part.{mid}
-use Rattle.gossip.specs.Message.{headLong, recordLong, partsOf}
+use Rattle.gossip.specs.Message.{partsOf}
 use Rattle.gossip.specs.Find.{partAt, below}
 use Rattle.gossip.proofs.Turn.{below-more, below-end}
 use Rattle.gossip.proofs.count_below.Statement.{statement}

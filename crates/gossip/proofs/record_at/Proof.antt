@@ -5,9 +5,8 @@ use mathlib.Core.Path.{_≡_, ap, _∙_}
 use borrow.Author.Needs.{needs}
 use Rattle.lists.specs.Part.{mid}
 use Rattle.stamp.specs.Parts.{listOf}
-use Rattle.wire.specs.Kinds.{recordKind}
+use Rattle.wire.specs.Kinds.{recordKind, headLong, recordLong}
 use Rattle.wire.specs.Read.{readAs}
-use Rattle.gossip.specs.Message.{headLong, recordLong}
 use Rattle.gossip.specs.Find.{partAt}
 use Rattle.gossip.proofs.record_at.Statement.{statement}
 use Rattle.gossip.proofs.record_at.Tie as tie

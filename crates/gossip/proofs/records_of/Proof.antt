@@ -6,10 +6,10 @@ use lib.Dec.{T}
 use lib.ListN.{length}
 use borrow.Author.Needs.{needs}
 use Rattle.lists.specs.Part.{mid}
-use Rattle.wire.specs.Kinds.{headKind}
+use Rattle.wire.specs.Kinds.{headKind, headLong, recordLong}
 use Rattle.wire.specs.declared.Said.the-variants as said
 use Rattle.gossip.specs.Tags.{not-this}
-use Rattle.gossip.specs.Message.{headLong, recordLong, countIn, partsOf, recordParts, wellFormed}
+use Rattle.gossip.specs.Message.{countIn, partsOf, recordParts, wellFormed}
 use Rattle.gossip.specs.Find.{placeOf}
 use Rattle.gossip.specs.FindLaws.{end-part, none-refused, start-refused, place-next, found, none-found, start-some, start-none}
 use Rattle.gossip.specs.Told.{gossip-told, gossip-untold, head-count, well-long}

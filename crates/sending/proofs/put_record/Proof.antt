@@ -3,8 +3,8 @@ use Prim.Native.Nat.{ℕ, _+_, _-_}
 use native.Mathlib.Omega.{arith}
 use mathlib.Core.Path.{_≡_, ap₂, _∙_}
 use mathlib.Core.List.{List}
+use Rattle.wire.specs.Kinds.{recordLong}
 use Rattle.lists.specs.Part.{patch}
-use Rattle.gossip.specs.Message.{recordLong}
 use Rattle.layout.specs.SoundWords.{lawful-held}
 use Rattle.sending.specs.Parts.{startOf}
 use Rattle.sending.proofs.Turn.{words-long, row-writable, row-bytes}

@@ -3,7 +3,7 @@ use Prim.Native.Nat.{_-_, _≤_, _<_}
 use native.Mathlib.Omega.{arith}
 use mathlib.Core.Path.{_≡_, refl, sym, _∙_}
 use lib.ListN.{length, drop}
-use Rattle.gossip.specs.Message.{headLong}
+use Rattle.wire.specs.Kinds.{headLong}
 use Rattle.meaning.specs.Step.{send}
 use Rattle.layout.specs.Words.{bookOf}
 use Rattle.sending.specs.Parts.{startOf, withRecords}
