@@ -7,10 +7,11 @@ pub const LONGEST_REPLY: usize = 37 + 256 * 47;
 
 const TAKEN: u8 = 5;
 const VERDICT: u8 = 7;
+const REFUSED: u8 = 9;
 const GOSSIP_TAKEN: u8 = 10;
 
 /// So many taps or questions make a step that is timed.
-const STEP: u32 = 25;
+const STEP: u32 = 5;
 
 const LOG_ROOM: u32 = 256;
 const KNOWN_ROOM: u32 = 1024;
@@ -31,7 +32,31 @@ pub struct Work {
 }
 
 pub fn works() -> Vec<Work> {
-    vec![taps(), questions(), gossips(), soundness()]
+    vec![taps(), questions(), gossips(), full("soundness of a full book, 1,000 times", tap)]
+}
+
+/// What of the works is the judging of the book; and full books that differ in the order of their taps alone.
+pub fn judgings() -> Vec<Work> {
+    vec![
+        judging("of the 1,000 taps", taps()),
+        judging("of the 1,000 questions", questions()),
+        judging("of the 100 gossips", gossips()),
+        full("a full book, the log's taps the lowest", lowest),
+        full("a full book, the log's taps the highest", highest),
+    ]
+}
+
+/// Instead of each step that counts, as many messages that have the book judged count, sent before it.
+fn judging(name: &'static str, work: Work) -> Work {
+    let mut steps = Vec::new();
+    for step in work.steps {
+        if step.counts {
+            let messages = step.messages.iter().map(|message| cut(message)).collect();
+            steps.push(Step { book: step.book, messages, reply: REFUSED, counts: true });
+        }
+        steps.push(Step { counts: false, ..step });
+    }
+    Work { name, books: work.books, steps }
 }
 
 /// A log holds 256, so after every 250 taps the other screen says, untimed, that it has them.
@@ -52,12 +77,16 @@ fn taps() -> Work {
 
 fn questions() -> Work {
     let book = after(&taps());
-    Work { name: "1,000 questions, 1,000 counted, log empty", books: vec![book], steps: thousand_questions() }
+    Work {
+        name: "1,000 questions, 1,000 counted, log empty",
+        books: vec![book],
+        steps: thousand(question, VERDICT),
+    }
 }
 
 /// A book may know 1,024 records, so each message has a fresh book of its own.
 fn gossips() -> Work {
-    let message = gossip(3, first(1, 200), records(1, 200));
+    let message = gossip(3, first(1, 200), records(1, 200, tap));
     let steps = (0..100).map(|book| Step {
         book,
         messages: vec![message.clone()],
@@ -71,25 +100,29 @@ fn gossips() -> Work {
     }
 }
 
-/// A question does little itself, so its time is that of the judgement of the book.
-fn soundness() -> Work {
-    let book = after(&filling());
-    Work { name: "1,000 questions, 1,024 counted, log full", books: vec![book], steps: thousand_questions() }
+fn full(name: &'static str, tap: fn(u32) -> Tap) -> Work {
+    let book = after(&filling(tap));
+    Work { name, books: vec![book], steps: thousand(|prompt| cut(&question(prompt)), REFUSED) }
 }
 
-fn thousand_questions() -> Vec<Step> {
+fn thousand(message: fn(u8) -> Vec<u8>, reply: u8) -> Vec<Step> {
     let steps = (0..1000).step_by(STEP as usize).map(|_| {
-        let messages = (0..STEP).map(|number| question(number as u8)).collect();
-        Step { book: 0, messages, reply: VERDICT, counts: true }
+        let messages = (0..STEP).map(|prompt| message(prompt as u8)).collect();
+        Step { book: 0, messages, reply, counts: true }
     });
     steps.collect()
 }
 
+/// The byte of kind alone: it is refused, but only once the book is found sound.
+fn cut(message: &[u8]) -> Vec<u8> {
+    message[..1].to_vec()
+}
+
 /// Fills a book of three screens: 1,024 counted taps, the last 256 of them in the log, since screen 2 lacks them.
-fn filling() -> Work {
+fn filling(tap: fn(u32) -> Tap) -> Work {
     let mut messages = Vec::new();
     for known in (LOG_ROOM..=KNOWN_ROOM).step_by(LOG_ROOM as usize) {
-        messages.push(gossip(3, first(1, known), records(known - LOG_ROOM + 1, known)));
+        messages.push(gossip(3, first(1, known), records(known - LOG_ROOM + 1, known, tap)));
         if known < KNOWN_ROOM {
             let mut told = gossip(3, first(1, known), Vec::new());
             // The same stamp from screen 2.
@@ -129,6 +162,16 @@ fn tap(serial: u32) -> Tap {
     }
 }
 
+/// The taps of a full book's log are the lowest of its counted taps.
+fn lowest(number: u32) -> Tap {
+    Tap { front_end: u8::from(number <= KNOWN_ROOM - LOG_ROOM), ..tap(number) }
+}
+
+/// The taps of a full book's log are the highest of its counted taps.
+fn highest(number: u32) -> Tap {
+    Tap { front_end: u8::from(number > KNOWN_ROOM - LOG_ROOM), ..tap(number) }
+}
+
 fn question(prompt: u8) -> Vec<u8> {
     Request::Question(Question { prompt, label: Stamp::ZERO }).encode()
 }
@@ -141,7 +184,7 @@ fn first(screen: usize, count: u32) -> Stamp {
 }
 
 /// Records of screen 1 that wait for nothing.
-fn records(from: u32, to: u32) -> Vec<Record> {
+fn records(from: u32, to: u32, tap: fn(u32) -> Tap) -> Vec<Record> {
     (from..=to).map(|number| Record { origin: 1, number, label: Stamp::ZERO, tap: tap(number) }).collect()
 }
 

@@ -7,8 +7,14 @@ use std::time::{Duration, Instant};
 
 use house::Work;
 
-/// Each work is done so often after a first time.
-const ROUNDS: usize = 20;
+/// Each side does each work so often.
+const ROUNDS: usize = 21;
+
+const NOTES: &str = "\
+The two sides take turns. Books and messages are made before the clock starts, the books anew for each
+round, so they are in the cache as far as they fit; the one buffer for replies is not cleared between
+answers. A message of one byte has the book judged alone: it is refused once the book is found sound.
+A full book has 1,024 counted taps, of which 256 are in the log.";
 
 /// One side of the comparison: answers a message on lent words.
 type Answer = fn(&mut [u64], &[u8], &mut [u8]) -> usize;
@@ -17,31 +23,36 @@ fn main() {
     if cfg!(debug_assertions) {
         eprintln!("This is no release build; run it with `cargo run --release -p bench`.");
     }
-    println!("{:44} {:>12} {:>12} {:>8}", "", "proved", "plain", "ratio");
-    for work in house::works() {
-        let proved = quickest(&work, consent::lent::answer);
-        let plain = quickest(&work, plain::entry::answer);
+    table("", &house::works());
+    table("Judging the book alone", &house::judgings());
+    println!("Each work is cut into short steps; a step's time is its quickest of {ROUNDS} rounds.");
+    println!("{NOTES}");
+    if cfg!(not(target_arch = "x86_64")) {
+        println!("Not x86-64: the proved side ran in an emulator, so its times and the ratios say nothing.");
+    }
+}
+
+fn table(title: &str, works: &[Work]) {
+    println!("{title:44} {:>12} {:>12} {:>8}", "proved", "plain", "ratio");
+    for work in works {
+        let [proved, plain] = quickest(work, [consent::lent::answer, plain::entry::answer]);
         let ratio = proved.as_secs_f64() / plain.as_secs_f64();
         println!("{:44} {:>12} {:>12} {:>8.2}", work.name, shown(proved), shown(plain), ratio);
     }
     println!();
-    println!("Each work is cut into short steps; a step's time is its quickest of {} rounds.", ROUNDS + 1);
-    println!("Books and messages are made before the clock starts, the books anew for each round, so they are in the");
-    println!("cache as far as they fit; the one buffer for replies is not cleared between answers.");
-    if cfg!(not(target_arch = "x86_64")) {
-        println!("This machine is not x86-64: the proved library ran under an emulator, and its times say nothing.");
-    }
 }
 
 /// The sum of each step's quickest time: a busy machine disturbs some step in every round, but hardly one in all.
-fn quickest(work: &Work, answer: Answer) -> Duration {
-    let mut quickest = once(work, answer);
-    for _ in 0..ROUNDS {
-        for (least, time) in quickest.iter_mut().zip(once(work, answer)) {
-            *least = time.min(*least);
+fn quickest(work: &Work, sides: [Answer; 2]) -> [Duration; 2] {
+    let mut quickest = sides.map(|answer| once(work, answer));
+    for _ in 1..ROUNDS {
+        for (answer, least) in sides.iter().zip(&mut quickest) {
+            for (least, time) in least.iter_mut().zip(once(work, *answer)) {
+                *least = time.min(*least);
+            }
         }
     }
-    quickest.iter().sum()
+    quickest.map(|times| times.iter().sum())
 }
 
 /// Answers every message of the work once; the times of the steps that count.
