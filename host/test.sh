@@ -29,6 +29,9 @@ export CONSENT_LIB_DIR SCREEN_PROGRAM
 
 cargo test --offline --workspace
 
+# The header serves C++ as well.
+g++ -std=c++11 -Wall -Wextra -Werror -fsyntax-only -x c++ ../include/consent.h
+
 mkdir -p target/c
 gcc -std=c11 -O2 -Wall -Wextra -Werror -I../include c/two_screens.c "$CONSENT_LIB_DIR/libconsent.a" -o target/c/two_screens
 target/c/two_screens >target/c/two_screens.txt
