@@ -1,4 +1,4 @@
-// How many bytes the next message has, as far as what is read so far tells.
+// The next message of standard input: how many bytes it has, as far as what is read tells, and whether it is whole.
 use bigendian::number_at;
 use ledger::LOG_ROOM;
 use wire::Body;
@@ -7,12 +7,18 @@ use wire::HEAD_SIZE;
 use wire::KIND_SIZE;
 use wire::OPEN;
 use wire::QUESTION;
+use wire::RECORD;
 use wire::RECORD_SIZE;
 use wire::SEND;
 use wire::TAP;
 use wire::body_of;
 ghost use mathlib.Core.Path.{_≡_};
+ghost use Prim.Native.Nat.{_+_, _*_, _≤_, _<_};
+ghost use lib.ListN.{length};
+ghost use Rattle.ledger.specs.Limits.{logRoom};
+ghost use Rattle.wire.specs.Kinds.{headLong, recordLong};
 ghost use Rattle.frames.specs.Frame.{expected, gossipFrame, frameOf};
+ghost use Rattle.frames.specs.Next.{recordsStand, Framed, kindsStand, nextOf};
 
 // At least so many bytes in all are needed to tell; the message has so many in all; or 09 01 is written, and reading stops.
 pub enum Frame {
@@ -76,4 +82,50 @@ pub fn frame_of(read: &[u8], opened: bool) -> Frame
         return Frame::Stop;
     };
     Frame::Whole(KIND_SIZE + long)
+}
+
+// Whether each of the first records of a gossip message has its kind.
+fn records_stand(msg: &[u8], count: usize) -> bool
+    requires { ⌜ headLong + count * recordLong ≤ length (now msg) ⌝ }
+    requires { ⌜ count ≤ logRoom ⌝ }
+    ensures { λ r. ⌜ r ≡ recordsStand count (now (msg .entry)) ⌝ }
+{
+    let mut k = count;
+    while k > 0 {
+        k -= 1;
+        if msg[HEAD_SIZE + k * RECORD_SIZE] != RECORD {
+            return false;
+        }
+    }
+    true
+}
+
+// Whether every piece of a whole message has its kind.
+fn kinds_stand(msg: &[u8]) -> bool
+    requires { ⌜ 0 < length (now msg) ⌝ }
+    requires { ⌜ Framed (now msg) ⌝ }
+    ensures { λ r. ⌜ r ≡ kindsStand (now (msg .entry)) ⌝ }
+{
+    if msg[0] != HEAD {
+        return true;
+    }
+    let count = number_at(msg, COUNT_AT, COUNT_WIDTH);
+    records_stand(msg, count as usize)
+}
+
+// The next message in what is read: whole only when all of it is there and each piece of it has its kind.
+pub fn next_in(read: &[u8], opened: bool) -> Frame
+    ensures { λ r. ⌜ r ≡ nextOf (now (read .entry)) opened ⌝ }
+{
+    let frame = frame_of(read, opened);
+    let Frame::Whole(n) = frame else {
+        return frame;
+    };
+    if read.len() < n {
+        return Frame::More(n);
+    }
+    if !kinds_stand(read) {
+        return Frame::Stop;
+    }
+    Frame::Whole(n)
 }

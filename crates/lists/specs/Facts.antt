@@ -1,5 +1,5 @@
 -- Laws: tests over lists as facts, and facts as tests. Assumes nothing.
-use Prim.Native.Nat.{ℕ, zero, suc, _+_, _≤_, _<_}
+use Prim.Native.Nat.{ℕ, zero, suc, _+_, _-_, _≤_, _<_}
 use native.Mathlib.Nat.{not-suc-le-zero}
 use native.Mathlib.Omega.{arith}
 use mathlib.Core.Path.{_≡_, refl, sym, ap, subst, _∙_}
@@ -110,6 +110,12 @@ allBelow-at (suc n) p t k h = either (tell (ltb k n)) (λ l. allBelow-at n p (an
 pub allBelow-from : (n : ℕ) (p : ℕ → Bool) → ((k : ℕ) → k < n → T (p k)) → T (allBelow n p)
 allBelow-from zero p f = tt
 allBelow-from (suc n) p f = both (p n) (allBelow n p) (f n (omega arith)) (allBelow-from n p (λ k h. f k (omega arith)))
+
+-- the tests below a number, from the last
+pub below-last : (p : ℕ → Bool) (k : ℕ) → 0 < k → allBelow k p ≡ (p (k - 1) && allBelow (k - 1) p)
+below-last p k h =
+    let e : k ≡ suc (k - 1) = omega arith in
+    ap (λ (j : ℕ). allBelow j p) e
 
 abbrev pub bit : Bool → ℕ
 bit true = 1

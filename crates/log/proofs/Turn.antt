@@ -138,12 +138,6 @@ rising-end n r i at h =
     either (le-or-lt n i) (λ l. ap (rising place) (records-none n r i at l))
     (λ l. ap (rising place) (next n r i at l ∙ ap (λ (x : List Record). lentAt r at ∷ x) (records-none n r (i + 1) (at + rowLong) h)))
 
--- the tests below a number, from the last
-pub below-last : (p : ℕ → Bool) (k : ℕ) → 0 < k → allBelow k p ≡ (p (k - 1) && allBelow (k - 1) p)
-below-last p k h =
-    let e : k ≡ suc (k - 1) = omega arith in
-    ap (λ (j : ℕ). allBelow j p) e
-
 -- the climb from a copy of the start
 pub held-climb :
     (n : ℕ) (start end reached : Stamp) (rs : List Record) → T (rising place rs) → (length start ≡ stampLong) × (n ≤ stampLong) → reached ≡ climb (listOf (partsAt 0 start)) rs

@@ -1,12 +1,11 @@
 -- What document 01's small program writes for an input. Assumes nothing.
 use Prim.Native.Nat.{ℕ, zero, suc}
-use mathlib.Core.Bool.{Bool, true, false, cond}
+use mathlib.Core.Bool.{Bool, true, false}
 use mathlib.Core.List.{List, [], _∷_, _++_}
 use mathlib.Core.Option.{Option, none, some}
-use lib.Dec.{ltb}
 use lib.ListN.{length, take, drop}
 use Rattle.meaning.specs.Reply.{Reply, refusal}
-use Rattle.frames.specs.Frame.{frameOf}
+use Rattle.frames.specs.Next.{nextOf}
 use Rattle.frames.specs.declared.Frame.{Frame}
 use Rattle.frames.specs.declared.Frame.the-variants.{More, Whole, Stop}
 use Rattle.speech.specs.Speech.{bytesFor}
@@ -14,14 +13,14 @@ use Rattle.answering.specs.Answer.{doneOn, openFrom}
 use Rattle.practice.specs.declared.play.Next.{Next}
 use Rattle.practice.specs.declared.play.Next.the-variants.{Message, Broken}
 
--- an unexpected kind, a count above 256, or an end inside a message
-abbrev pub nextBy : Frame → ℕ → Next
-nextBy (Whole n) left = cond (ltb left n) Broken (Message n)
-nextBy (More n) left = Broken
-nextBy Stop left = Broken
+-- no more bytes come: an end inside a message is as an unexpected kind or a count above 256
+abbrev pub nextBy : Frame → Next
+nextBy (Whole n) = Message n
+nextBy (More n) = Broken
+nextBy Stop = Broken
 
 unfoldable pub nextIn : Bool → List ℕ → Next
-nextIn opened rest = nextBy (frameOf rest opened) (length rest)
+nextIn opened rest = nextBy (nextOf rest opened)
 
 abbrev pub onNext : Next → List ℕ → (ℕ → List ℕ) → List ℕ
 onNext (Message n) broken whole = whole n

@@ -11,8 +11,7 @@ use mathlib.Core.Path.{_≡_, refl, sym, ap, ap₂, subst, _∙_}
 use mathlib.Core.Bool.{Bool, true, false, cond}
 use mathlib.Core.List.{List, [], _∷_, _++_}
 use mathlib.Core.Option.{none, some}
-use borrow.Author.Tests.{ltb-false}
-use lib.Dec.{T, eqb, ltb}
+use lib.Dec.{T, eqb}
 use lib.ListN.{length, getD, take, drop, length-append, length-drop}
 use lib.Seq.{take-at, drop-drop}
 use Rattle.wire.specs.Kinds.{openKind, refusalKind, inTable, longest}
@@ -26,8 +25,8 @@ use Rattle.answers.specs.Lent.{openOn}
 use Rattle.opening.specs.Opening.{Opens, spokenOpening}
 use Rattle.opening.specs.declared.Opening as opening
 use Rattle.opening.specs.declared.Opening.the-variants as opened
-use Rattle.frames.specs.Frame.{frameOf}
-use Rattle.frames.specs.FrameLaws.{whole-long}
+use Rattle.frames.specs.Next.{nextOf}
+use Rattle.frames.specs.NextLaws.{next-whole}
 use Rattle.frames.specs.declared.Frame.{Frame}
 use Rattle.frames.specs.declared.Frame.the-variants.{More, Whole, Stop}
 use Rattle.speech.specs.Speech.{bytesFor, sayable, sayOn}
@@ -96,16 +95,12 @@ module _ (k : ℕ) (out : List ℕ) (w : Written) (bytes : List ℕ) (t : T (say
 
 pub next-within : (opened : Bool) (left : List ℕ) (n : ℕ) → nextIn opened left ≡ Message n → (1 ≤ n) × (n ≤ length left)
 unfolding nextIn
-next-within opened left n = go (frameOf left opened) refl
+next-within opened left n = go (nextOf left opened) refl
   where
-    fit : (m : ℕ) (c : Bool) → ltb (length left) m ≡ c → cond c Broken (Message m) ≡ Message n → (m ≡ n) × (m ≤ length left)
-    fit m true d q = let z : _≡_ {A = ℕ} 0 1 = cc in absurd (omega arith)
-    fit m false d q = (cc, ltb-false (length left) m d)
-
-    go : (f : Frame) → frameOf left opened ≡ f → nextBy f (length left) ≡ Message n → (1 ≤ n) × (n ≤ length left)
-    go (More m) e q = let z : _≡_ {A = ℕ} 0 1 = cc in absurd (omega arith)
-    go (Whole m) e q = let h = fit m (ltb (length left) m) refl q in (omega (arith, whole-long left opened m e .0, h .0), omega (arith, h .0, h .1))
-    go Stop e q = let z : _≡_ {A = ℕ} 0 1 = cc in absurd (omega arith)
+    go : (f : Frame) → nextOf left opened ≡ f → nextBy f ≡ Message n → (1 ≤ n) × (n ≤ length left)
+    go (More m) f e = let z : _≡_ {A = ℕ} 0 1 = cc in absurd (omega arith)
+    go (Whole m) f e = let z : m ≡ n = cc in subst (λ (k : ℕ). (1 ≤ k) × (k ≤ length left)) z (next-whole left opened m f)
+    go Stop f e = let z : _≡_ {A = ℕ} 0 1 = cc in absurd (omega arith)
 
 -- as many turns as bytes are enough
 more-turns : (f g : ℕ) (ws left : List ℕ) → length left ≤ f → length left ≤ g → saidTo f ws left ≡ saidTo g ws left

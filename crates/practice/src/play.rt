@@ -6,7 +6,7 @@ use answering::answer;
 use answering::open_from;
 use answers::Reply;
 use frames::Frame;
-use frames::frame_of;
+use frames::next_in;
 use layout::BOOK;
 use opening::Opening;
 use speech::speak;
@@ -34,14 +34,12 @@ enum Next {
 fn next_message(rest: &[u8], opened: bool) -> Next
     ensures { λ r. ⌜ r ≡ nextIn opened (now (rest .entry)) ⌝ }
 {
-    let frame = frame_of(rest, opened);
-    let Frame::Whole(n) = frame else {
-        return Next::Broken;
-    };
-    if rest.len() < n {
-        return Next::Broken;
+    let frame = next_in(rest, opened);
+    match frame {
+        Frame::Whole(n) => Next::Message(n),
+        Frame::More(_) => Next::Broken,
+        Frame::Stop => Next::Broken,
     }
-    Next::Message(n)
 }
 
 // The refusal that is written where the program stops, compared.

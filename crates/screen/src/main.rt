@@ -3,7 +3,7 @@ use answering::answer;
 use answering::open_from;
 use answers::Reply;
 use frames::Frame;
-use frames::frame_of;
+use frames::next_in;
 use layout::BOOK;
 use libc::STDIN_FILENO;
 use libc::STDOUT_FILENO;
@@ -12,6 +12,9 @@ use speech::speak;
 use wire::BAD;
 use wire::LONGEST;
 use wire::Written;
+
+// The kind, a head's count and the whole are read one after the other, and a last look finds the message whole.
+const LOOKS: usize = 4;
 
 // What comes next: a whole message of so many bytes, the end between messages, or bytes that stop the program.
 enum Next {
@@ -51,40 +54,40 @@ fn read_up_to(msg: &mut [u8], have: usize, n: usize) -> usize {
     have + got
 }
 
-// How many bytes are wanted in all, or none where the bytes stop the program.
-fn wanted(msg: &[u8], have: usize, opened: bool) -> usize {
-    if msg.len() < have {
-        return 0;
-    }
-    let frame = frame_of(&msg[0..have], opened);
+fn received(frame: Frame) -> Next {
     match frame {
-        Frame::More(n) => n,
-        Frame::Whole(n) => n,
-        Frame::Stop => 0,
+        Frame::Whole(n) => Next::Message(n),
+        Frame::More(_) => Next::Broken,
+        Frame::Stop => Next::Broken,
     }
 }
 
-// The next message, read to the front of msg. Framing asks at most three times: the kind, a head's count, the whole.
+// What the first bytes of msg are the start of.
+fn look(msg: &[u8], have: usize, opened: bool) -> Frame {
+    if msg.len() < have {
+        return Frame::Stop;
+    }
+    next_in(&msg[0..have], opened)
+}
+
+// The next message, read to the front of msg.
 fn receive(msg: &mut [u8], opened: bool) -> Next {
     let mut have: usize = 0;
-    let mut turns: usize = 0;
-    while turns < 4 {
-        let n = wanted(msg, have, opened);
-        if n == 0 {
-            return Next::Broken;
-        }
-        if n <= have {
-            return Next::Message(have);
-        }
+    let mut looks: usize = 0;
+    while looks < LOOKS {
+        let frame = look(msg, have, opened);
+        let Frame::More(n) = frame else {
+            return received(frame);
+        };
         let there = read_up_to(msg, have, n);
+        if there == 0 {
+            return Next::End;
+        }
         if there < n {
-            if there == 0 {
-                return Next::End;
-            }
             return Next::Broken;
         }
         have = there;
-        turns += 1;
+        looks += 1;
     }
     Next::Broken
 }
@@ -133,6 +136,7 @@ fn main() {
     if !begin(&mut book, &mut msg, &mut out) {
         return;
     }
+    // Every loop is proved to end: these are more turns than any input has messages.
     let mut turns = u64::MAX;
     while turns > 0 {
         if !turn(&mut book, &mut msg, &mut out) {

@@ -4,9 +4,9 @@ use native.Mathlib.Omega.{arith}
 use mathlib.Core.Path.{_≡_, sym, ap, _∙_}
 use lib.Dec.{leb}
 use borrow.Author.Tests.{lt-leb, le-leb}
+use Rattle.lists.specs.Facts.{below-last}
 use Rattle.lists.specs.Tests.{allBelow}
 use Rattle.stamp.specs.Stamp.{part}
-use Rattle.log.proofs.Turn.{below-last}
 use borrow.Author.Needs.{needs}
 use Rattle.log.proofs.first_at_most.Statement.{statement}
 use Rattle.log.proofs.first_at_most.Tie as tie

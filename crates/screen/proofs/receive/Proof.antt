@@ -7,10 +7,10 @@ use Rattle.screen.proofs.receive.Statement.{statement}
 use Rattle.screen.proofs.receive.Tie as tie
 
 abbrev Inv-loop : tie.InvT-loop
-Inv-loop msg₀ opened have₀ turns₀ msg have turns = (turns ≤ 4) × (length msg ≡ length msg₀)
+Inv-loop msg₀ opened have₀ looks₀ msg have looks = (looks ≤ 4) × (length msg ≡ length msg₀)
 
 abbrev μ-loop : tie.MeasureT-loop
-μ-loop msg₀ opened have₀ turns₀ msg have turns = 4 - turns
+μ-loop msg₀ opened have₀ looks₀ msg have looks = 4 - looks
 
 pub receive-spec : {M : Type 1} → statement M
 receive-spec =
@@ -21,7 +21,7 @@ receive-spec =
     (λ c. search needs)
     (λ c κs. search needs)
     (λ c. search needs)
-    (λ c. search needs)
+    (λ c κs. search needs)
     (λ c. search needs)
     (λ c. search needs)
     (λ c κs. search needs)
