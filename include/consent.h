@@ -33,8 +33,8 @@ uint64_t consent_open(uint64_t *book, size_t words, uint64_t screen, uint64_t sc
  * `reply`, puts the book in order and returns the reply's length. A refusal is a reply of two bytes, 09 and its
  * number, and changes nothing in the book: 11 for a damaged book or one of wrong length, then 1 for bytes that are no
  * such message, then the others in their order.
- * Returns 0, and changes nothing, when `room` is too short: below consent_reply_room for the message or, for a send,
- * below the length of the very message that it would write.
+ * Returns 0, and changes nothing, when `room` is too short: below consent_reply_room for the message or, for bytes that
+ * start with 12, below the length of the very reply: that of the gossip for a send, and 2 for a refusal.
  */
 size_t consent_answer(uint64_t *book, size_t words, const uint8_t *message, size_t length, uint8_t *reply, size_t room);
 

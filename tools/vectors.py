@@ -22,7 +22,8 @@ CRATE = Path(__file__).resolve().parent.parent / "crates" / "practice"
 
 # ---------------------------------------------------------------- stamps, taps, records
 
-PARTS, LOG_MAX, KNOWN_MAX, COUNT_MAX = 8, 256, 1024, 256
+PARTS, LOG_MAX, KNOWN_MAX = 8, 256, 1024
+COUNT_MAX = LOG_MAX
 TOP = 2**32 - 1
 ACCEPT, DECLINE = 1, 2
 UNASKED, ACCEPTED, DECLINED, CONTESTED = range(4)
@@ -166,7 +167,8 @@ class Screen:
         if data[0] == QUESTION:
             return self.question(data[1], unpack(">8I", data[2:]))
         if data[0] == GOSSIP:
-            return self.gossip(data[1], data[2], unpack(">8I", data[5:37]), [data[at:at + 47] for at in range(37, len(data), 47)])
+            head, size = 1 + BODY[GOSSIP], 1 + BODY[RECORD]
+            return self.gossip(data[1], data[2], unpack(">8I", data[5:head]), [data[at:at + size] for at in range(head, len(data), size)])
         return wire_gossip(self.i, self.n, self.known, self.log())
 
     def tap(self, tap, label):
@@ -245,10 +247,10 @@ def next_message(data, at, kinds):
         return None
     end = at + 1 + BODY[data[at]]
     if data[at] == GOSSIP:
-        count = int.from_bytes(data[at + 3:at + 5], "big")
-        if count > COUNT_MAX:
-            return None
+        count, records = int.from_bytes(data[at + 3:at + 5], "big"), end
         end += count * (1 + BODY[RECORD])
+        if count > COUNT_MAX or any(kind != RECORD for kind in data[records:end:1 + BODY[RECORD]]):
+            return None
     return data[at:end] if end <= len(data) else None
 
 
@@ -308,6 +310,12 @@ def gossip(sender, n, m, *records, count=None):
 
 def record(origin, number, tap, *label):
     return Record(origin, number, stamp(*label), tap)
+
+
+def with_kind(message, k, kind):
+    """The gossip message with another kind at the place of its record k."""
+    at = 1 + BODY[GOSSIP] + k * (1 + BODY[RECORD])
+    return message[:at] + bytes([kind]) + message[at + 1:]
 
 
 def nth(number):
@@ -471,6 +479,20 @@ def counts():
     add("count-256-and-the-last-record-cut", (1, 3), (gossip(0, 3, [256], *many(0, 1, 256))[:-1], STOP))
 
 
+def record_kinds():
+    """A wrong kind at a record's place stops the program, whatever follows and whatever else the message breaks."""
+    first, last = with_kind(AFTER_B, 0, TAP), with_kind(AFTER_B, 1, TAP)
+    good = (AFTER_B, SILENCE), (send, SILENCE)
+    add("first-record-of-kind-0", (1, 3), (with_kind(AFTER_B, 0, 0), STOP), *good)
+    add("first-record-of-kind-3", (1, 3), (press(A), taken(0, 1)), (first, STOP), *good)
+    add("last-record-of-kind-3", (1, 3), (last, STOP), *good)
+    add("last-record-of-256-of-kind-3", (1, 3), (with_kind(gossip(0, 3, [256], *many(0, 1, 256)), 255, TAP), STOP), *good)
+    add("record-of-kind-3-in-old-gossip", (1, 3), HEARD_B, (last, STOP), *good)
+    add("record-of-kind-3-behind-a-head-that-breaks-a-rule", (1, 3), (with_kind(gossip(0, 9, [1], A_REC), 0, TAP), STOP), *good)
+    for size in 38, 130:
+        add(f"record-of-kind-3-and-cut-after-{size}", (1, 3), (first[:size], STOP))
+
+
 # ---------------------------------------------------------------- damaged fields; after each, reading goes on behind the whole message
 
 def tap_fields():
@@ -529,9 +551,6 @@ def record_fields():
               "equal-places-other-taps": [A_REC, record(0, 1, B)]}
     for name, records in orders.items():
         add(f"records-{name}", (1, 3), (gossip(0, 3, [2, 0, 1], *records), no(1)), good)
-    # A reader may also take a wrong kind inside a gossip message as one to stop at; as nothing follows here, both readings give these bytes.
-    whole = gossip(0, 3, [1], A_REC)
-    add("record-of-kind-3-inside-the-last-gossip", (1, 3), (whole[:37] + bytes([TAP]) + whole[38:], no(1)))
     add("record-own-label-part-just-below-number", (1, 3), (gossip(0, 3, [2], A_REC, record(0, 2, B, 1)), heard(2, 2)))
     add("record-known-and-damaged", (1, 3), HEARD_B, (gossip(0, 3, [3], record(0, 1, A._replace(answer=3)), *many(0, 3, 3)), no(1)),
         (gossip(0, 3, [3], *many(0, 3, 3)), heard(1, 1)))
@@ -800,9 +819,9 @@ def check_figures():
 # ---------------------------------------------------------------- the files
 
 def all_vectors():
-    for part in (document_cases, case_m, case_n, case_o_log, case_o_known, opening, unexpected_kinds, cuts, counts, tap_fields, question_fields,
-                 gossip_head_fields, record_fields, tap_order, gossip_order_at_two, gossip_order_at_four_and_five, gossip_order_at_six_and_seven,
-                 gossip_order_at_eight_and_nine, verdicts, already_and_waiting, steps_that_apply, exchange_of_three):
+    for part in (document_cases, case_m, case_n, case_o_log, case_o_known, opening, unexpected_kinds, cuts, counts, record_kinds, tap_fields,
+                 question_fields, gossip_head_fields, record_fields, tap_order, gossip_order_at_two, gossip_order_at_four_and_five,
+                 gossip_order_at_six_and_seven, gossip_order_at_eight_and_nine, verdicts, already_and_waiting, steps_that_apply, exchange_of_three):
         part()
     mixed_walk(2, 60, 1)
     mixed_walk(3, 90, 2)

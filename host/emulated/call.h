@@ -1,5 +1,5 @@
-/* A call of the library as it goes through the pipe: this, then the book's words, then the message. Back come the
- * result, the book's words and the reply. */
+/* A call of the library as it goes through the pipe: this, then the book's words, the message and the reply's bytes as
+ * they are. Back come the result, the book's words and the reply's bytes. */
 #ifndef CALL_H
 #define CALL_H
 

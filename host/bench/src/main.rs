@@ -1,11 +1,11 @@
 //! Prints what the proved library and the ordinary Rust version take for the same messages, in one run.
 
-mod house;
+mod work;
 
 use std::hint::black_box;
 use std::time::{Duration, Instant};
 
-use house::Work;
+use work::Work;
 
 /// Each side does each work so often.
 const ROUNDS: usize = 21;
@@ -23,8 +23,8 @@ fn main() {
     if cfg!(debug_assertions) {
         eprintln!("This is no release build; run it with `cargo run --release -p bench`.");
     }
-    table("", &house::works());
-    table("Judging the book alone", &house::judgings());
+    table("", &work::works());
+    table("Judging the book alone", &work::judgings());
     println!("Each work is cut into short steps; a step's time is its quickest of {ROUNDS} rounds.");
     println!("{NOTES}");
     if cfg!(not(target_arch = "x86_64")) {
@@ -58,7 +58,7 @@ fn quickest(work: &Work, sides: [Answer; 2]) -> [Duration; 2] {
 /// Answers every message of the work once; the times of the steps that count.
 fn once(work: &Work, answer: Answer) -> Vec<Duration> {
     let mut books = work.books.clone();
-    let mut reply = vec![0; house::LONGEST_REPLY];
+    let mut reply = vec![0; work::LONGEST_REPLY];
     let mut times = Vec::new();
     for step in &work.steps {
         let start = Instant::now();

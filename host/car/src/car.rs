@@ -1,3 +1,5 @@
+//! The car: a book for each screen, and what each command answers.
+
 use consent::{Book, Question, QuestionAnswer, Refusal, Standing, Tap, TapAnswer};
 
 use crate::command::TapRequest;

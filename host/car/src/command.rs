@@ -1,3 +1,5 @@
+//! The lines that a person types, and what they ask for.
+
 use consent::{Answer, Question, Stamp};
 
 pub const HELP: &str = "\

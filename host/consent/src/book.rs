@@ -1,3 +1,5 @@
+//! A book that owns its words, and the typed calls on it.
+
 use crate::contents::Contents;
 use crate::ffi;
 use crate::message::{is_gossip, Reply, Request};

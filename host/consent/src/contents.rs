@@ -1,3 +1,5 @@
+//! What stands in a book's words. The offsets follow docs/LAYOUT.md, since the library exports none.
+
 use crate::values::{Answer, Record, Stamp, Standing, Tap, Verdict};
 
 const TABLE: usize = 4;

@@ -1,3 +1,5 @@
+//! Messages: requests, replies and gossip as values, and each as bytes (docs/WIRE.md).
+
 use crate::values::{Answer, Question, Record, Refusal, Stamp, Standing, Tap, Verdict};
 
 const GOSSIP: u8 = 1;
@@ -12,6 +14,7 @@ const REFUSAL: u8 = 9;
 const GOSSIP_TAKEN: u8 = 10;
 const SEND: u8 = 12;
 
+const HEAD_BYTES: usize = 37;
 const RECORD_BYTES: usize = 47;
 const MOST_RECORDS: usize = 256;
 
@@ -148,7 +151,7 @@ impl Gossip {
         if self.records.len() > MOST_RECORDS {
             return None;
         }
-        let mut bytes = Vec::with_capacity(37 + RECORD_BYTES * self.records.len());
+        let mut bytes = Vec::with_capacity(HEAD_BYTES + RECORD_BYTES * self.records.len());
         bytes.extend([GOSSIP, self.sender, self.screens]);
         bytes.extend((self.records.len() as u16).to_be_bytes());
         put_stamp(&mut bytes, &self.stamp);

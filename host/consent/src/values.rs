@@ -1,3 +1,5 @@
+//! The values that messages and books hold: stamps, taps, records, verdicts and refusals.
+
 use std::error::Error;
 use std::fmt;
 
@@ -23,7 +25,7 @@ pub struct Tap {
     pub serial: u32,
     /// What was asked, 0 to 63.
     pub prompt: u8,
-    /// The how manieth showing of the prompt was answered, from 1.
+    /// Which showing of the prompt was answered, from 1.
     pub showing: u16,
     /// What was tapped.
     pub answer: Answer,

@@ -1,3 +1,5 @@
+//! What is compared: an implementation of the book, as five functions.
+
 /// One implementation of the consent book over lent words and bytes.
 pub trait Engine {
     /// The length of a lent book, in words.

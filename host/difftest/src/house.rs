@@ -1,3 +1,5 @@
+//! A random house: taps, questions and gossip at all of its screens.
+
 use crate::bytes;
 use crate::forge::{self, Variety};
 use crate::pair::{Books, Pair, UNSOUND};

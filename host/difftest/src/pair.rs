@@ -1,3 +1,5 @@
+//! Two engines asked the same, and their answers, books and outputs compared.
+
 use std::fmt;
 
 use crate::bytes::hex;

@@ -1,3 +1,5 @@
+//! Random numbers that are the same on every machine.
+
 /// A small xorshift generator: the same seed gives the same run on every machine.
 pub struct Random(u64);
 

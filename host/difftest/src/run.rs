@@ -1,3 +1,5 @@
+//! A whole run by its plan: houses, damaged books, and the report.
+
 use crate::damage;
 use crate::engine::Engine;
 use crate::house::House;

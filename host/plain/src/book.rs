@@ -1,3 +1,5 @@
+//! The book as a value, and its steps.
+
 use super::message::Gossip;
 use super::{Record, Refusal, Stamp, Tap, LEAST_SCREENS, MOST_SCREENS, PROMPTS};
 

@@ -1,3 +1,5 @@
+//! Messages read and written, with their field rules.
+
 use super::book::{Prompt, QuestionAnswer, TapAnswer, LOG_ROOM};
 use super::{Book, Record, Refusal, Stamp, Tap, LEAST_SCREENS, MOST_SCREENS, PROMPTS};
 

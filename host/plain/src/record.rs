@@ -1,3 +1,5 @@
+//! Records: known, applied, and their field rules.
+
 use super::{Stamp, Tap};
 
 /// A tap with its label, the screen that took it and its number there.

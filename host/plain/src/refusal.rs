@@ -1,3 +1,5 @@
+//! The refusals and their numbers.
+
 /// A refusal of document 01; the number is the one on the wire.
 #[derive(Clone, Copy, Debug, PartialEq, Eq)]
 #[repr(u8)]
@@ -30,24 +32,5 @@ impl Refusal {
     /// The number on the wire.
     pub fn number(self) -> u8 {
         self as u8
-    }
-
-    /// The refusal of that number, if it is in the table.
-    pub fn from_number(number: u8) -> Option<Refusal> {
-        use Refusal::*;
-        let table = [
-            Malformed,
-            House,
-            LabelAhead,
-            Old,
-            Crossed,
-            ClaimsOurs,
-            Spent,
-            Gap,
-            NoRoom,
-            Unsound,
-            ShortOutput,
-        ];
-        table.into_iter().find(|refusal| refusal.number() == number)
     }
 }

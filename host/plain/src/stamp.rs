@@ -1,3 +1,5 @@
+//! Stamps: covers, merge, and the sum of the parts.
+
 use super::MOST_SCREENS;
 
 /// Eight parts, one for each screen; those past the house's N are zero.

@@ -1,3 +1,5 @@
+//! Taps, one word each.
+
 use super::PROMPTS;
 
 /// A tap: front end, serial, prompt, showing and answer in one word, in that order from the top.

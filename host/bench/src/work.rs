@@ -1,9 +1,10 @@
 //! The work that is timed.
 
 use consent::{Answer, Gossip, Question, Record, Request, Stamp, Tap};
+use plain::{HEAD_BYTES, RECORD_BYTES};
 
 /// The longest reply: a send with a full log.
-pub const LONGEST_REPLY: usize = 37 + 256 * 47;
+pub const LONGEST_REPLY: usize = HEAD_BYTES + LOG_ROOM as usize * RECORD_BYTES;
 
 const TAKEN: u8 = 5;
 const VERDICT: u8 = 7;
