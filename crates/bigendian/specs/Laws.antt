@@ -4,8 +4,7 @@ use native.Mathlib.Nat.{pow-suc, suc-add, add-suc, zero-add, add-zero}
 use native.Mathlib.Omega.{arith}
 use mathlib.Core.Path.{_≡_, refl, sym, ap, _∙_}
 use mathlib.Core.List.{List, [], _∷_, _++_, append-assoc, append-nil}
-use lib.ListN.{length, take, drop, getD, length-append}
-use Rattle.lists.specs.Part.{mid}
+use lib.ListN.{length, take, drop, length-append}
 use Rattle.bigendian.specs.Number.{numberFrom, numberOf, bytesOf, Bytes}
 
 pub length-bytes : (w n : ℕ) → length (bytesOf w n) ≡ w
@@ -69,19 +68,3 @@ unfolding Bytes
 bytes-drop zero l h = h
 bytes-drop (suc k) [] h = tt
 bytes-drop (suc k) (x ∷ l) h = bytes-drop k l (h .1)
-
-pub bytes-mid : (a k : ℕ) (l : List ℕ) → Bytes l → Bytes (mid a k l)
-unfolding mid
-bytes-mid a k l h = bytes-take k (drop a l) (bytes-drop a l h)
-
--- what is known of a slice of bytes at each place
-pub places-bytes : (l : List ℕ) → ((i : ℕ) → getD l i 0 < 256) → Bytes l
-unfolding Bytes
-places-bytes [] f = tt
-places-bytes (x ∷ l) f = (f 0, places-bytes l (λ i. f (suc i)))
-
-pub bytes-place : (l : List ℕ) → Bytes l → (i : ℕ) → getD l i 0 < 256
-unfolding Bytes
-bytes-place [] h i = omega arith
-bytes-place (x ∷ l) h zero = h .0
-bytes-place (x ∷ l) h (suc i) = bytes-place l (h .1) i

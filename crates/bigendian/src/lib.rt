@@ -16,7 +16,7 @@ pub fn wide(x: u8) -> u64
 }
 
 // The number that the whole slice holds.
-pub fn number_of(s: &[u8]) -> u64
+fn number_of(s: &[u8]) -> u64
     requires { ⌜ length (now s) ≤ 8 ⌝ }
     ensures { λ r. ⌜ (r ≡ numberOf (now (s .entry))) × (r < 256 ^ length (now (s .entry))) ⌝ }
 {
@@ -39,7 +39,7 @@ pub fn number_at(s: &[u8], at: usize, w: usize) -> u64
 }
 
 // The last bytes of n over the whole slice.
-pub fn put_number(s: &mut [u8], n: u64)
+fn put_number(s: &mut [u8], n: u64)
     ensures { λ _. ⌜ now (s .exit) ≡ bytesOf (length (now (s .entry))) n ⌝ }
 {
     let mut m = n;

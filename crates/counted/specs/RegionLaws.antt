@@ -1,7 +1,6 @@
 -- Laws of the counted taps' words: taps and words give each other back, what the words' order says of the taps, and what
 -- inserting a word comes to. Assumes nothing.
 use Prim.Native.Nat.{ℕ, suc, _+_, _-_, _≤_, _<_}
-use native.Mathlib.Numerals.{add-one}
 use native.Mathlib.Omega.{arith}
 use mathlib.Core.Path.{_≡_, refl, sym, ap, ap₂, subst, _∙_}
 use mathlib.Core.Bool.{not, _||_}
@@ -90,24 +89,7 @@ one-longer (later r) = ap suc (one-longer r)
 pub length-insert : (t : Tap) (ts : List Tap) → T (not (among ts t)) → length (insert fields t ts) ≡ suc (length ts)
 length-insert t ts n = one-longer (one-more t ts n)
 
-module _ (n w : ℕ) (r : List ℕ) (h : n < length r) (new : T (not (among (tapsAt n r) (tapOf w)))) where
-  long : length (map wordOf (insert fields (tapOf w) (tapsAt n r))) ≡ n + 1
-  long = length-map (insert fields (tapOf w) (tapsAt n r)) wordOf ∙ length-insert (tapOf w) (tapsAt n r) new ∙ rw (length-taps n r (omega arith)) (sym (add-one n))
-
-  pub length-inserted : length (insertedAt n w r) ≡ length r
-  unfolding insertedAt
-  length-inserted = simp (length-append, length-drop) (omega (arith, long))
-
-  pub taps-inserted : tapsAt (n + 1) (insertedAt n w r) ≡ insert fields (tapOf w) (tapsAt n r)
-  unfolding insertedAt tapsAt wordKey
-  taps-inserted =
-      rw (take-at (map wordOf (insert fields (tapOf w) (map tapOf (take n r)))) (drop (n + 1) r) (n + 1) long)
-      (ap (λ (ts : List Tap). map tapOf (map wordOf ts)) (sym both) ∙ ap (map tapOf) (words-of (insert wordKey w (take n r))) ∙ both)
-    where
-      both : map tapOf (insert wordKey w (take n r)) ≡ insert fields (tapOf w) (map tapOf (take n r))
-      both = map-insert tapOf wordKey fields (λ v. refl) w (take n r)
-
--- the same of a whole region that is written from its taps
+-- a new word put into a region that is written from its taps
 pub words-inserted :
     (room w : ℕ) (ts : List Tap) → AllFit ts → length ts < room → T (not (among ts (tapOf w))) → insertedAt (length ts) w (tapWords room ts) ≡ tapWords room (insert fields (tapOf w) ts)
 unfolding insertedAt tapWords

@@ -1,8 +1,8 @@
 -- One turn of the loops over a row of fields, on the lists. Assumes nothing.
 use Prim.Native.Nat.{ℕ, suc, _+_, _≤_, _<_, _^_}
 use native.Mathlib.Omega.{arith}
-use mathlib.Core.Path.{_≡_, refl, sym, ap, ap₂, subst, _∙_}
-use mathlib.Core.Bool.{Bool, true, false, _&&_, and-false}
+use mathlib.Core.Path.{_≡_, refl, ap, subst}
+use mathlib.Core.Bool.{true, false, _&&_, and-false}
 use mathlib.Core.List.{List, [], _∷_, _++_, append-assoc, append-nil}
 use lib.Dec.{T, leb, ltb, leb→le}
 use lib.ListN.{length, take, drop, getD, set, drop-of-length-le, take-append-drop}

@@ -13,8 +13,8 @@ use lib.Dec.{T, eqb, eqb→eq}
 use lib.ListN.{length, take}
 use Rattle.lists.specs.Facts.{and-l, and-r, is-true}
 use Rattle.stamp.specs.declared.Parts.{Parts}
-use Rattle.stamp.specs.Parts.{listOf, partsAt}
-use Rattle.wire.specs.Kinds.{headKind, recordKind, headLong, recordLong}
+use Rattle.stamp.specs.Parts.{listOf}
+use Rattle.wire.specs.Kinds.{headKind, headLong, recordLong}
 use Rattle.wire.specs.Laws.{lawful-head}
 use Rattle.wire.specs.Read.{readable, readAs}
 use Rattle.wire.specs.ReadLaws.{answered, unanswered, told-line}
@@ -42,10 +42,6 @@ module _ (bytes : List ℕ) (sender screens count : ℕ) (stamp : Parts) (read :
   pub head-in : headLine bytes ≡ 1 ∷ sender ∷ screens ∷ count ∷ listOf stamp
   unfolding headLine
   head-in = told-line headKind (take headLong bytes) (said.Head sender screens count stamp) read lawful-head (omega arith)
-
-  pub head-kind : kindIn bytes ≡ recordKind screens (listOf stamp)
-  unfolding partsAt listOf
-  head-kind = rw head-in
 
   pub head-count : countIn bytes ≡ count
   head-count = rw head-in

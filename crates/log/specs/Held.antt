@@ -5,7 +5,7 @@
 --     gapless-climb   a message has no gap
 use Prim.Native.Nat.{ℕ, suc, _≤_, _<_}
 use native.Mathlib.Omega.{arith}
-use mathlib.Core.Path.{_≡_, refl, sym, ap, _∙_}
+use mathlib.Core.Path.{_≡_, sym, ap, _∙_}
 use mathlib.Core.Logic.{_⊎_, _≢_, inl, inr}
 use mathlib.Core.Bool.{Bool, _&&_, _||_, cond, or-comm}
 use mathlib.Core.List.{List, [], _∷_, List·Memᴰ·cases-cons}
@@ -41,11 +41,6 @@ climbed s r = set s (r .origin) (raised (part s (r .origin)) (r .number))
 unfoldable pub climb : Stamp → List Record → Stamp
 climb s [] = s
 climb s (r ∷ rs) = climb (climbed s r) rs
-
-pub length-climb : (s : Stamp) (rs : List Record) → length (climb s rs) ≡ length s
-unfolding climb
-length-climb s [] = refl
-length-climb s (r ∷ rs) = length-climb (climbed s r) rs ∙ length-set s (r .origin) (raised (part s (r .origin)) (r .number))
 
 -- one record raises the part of its origin, if it is the next; else the part stays
 abbrev Raises : Stamp → Record → ℕ → Type 0

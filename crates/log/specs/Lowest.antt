@@ -1,17 +1,14 @@
 -- The lowest stamp of a table, the smaller in each part: it alone says what is known everywhere and what may go. Assumes nothing.
 --     everywhere-lowest   known everywhere, by the lowest stamp
 --     mayGo-lowest        may go, by the lowest stamp
---     none-goes           none may go, by the lowest stamp
 use Prim.Native.Nat.{ℕ, zero, suc, _≤_, min}
 use native.Mathlib.Omega.{arith}
 use mathlib.Core.Path.{_≡_, refl, ap}
-use mathlib.Core.Bool.{Bool, not, _&&_}
+use mathlib.Core.Bool.{Bool, _&&_}
 use mathlib.Core.List.{List, [], _∷_}
 use lib.Dec.{T, leb, leb→le, le→leb}
-use lib.ListN.{length}
 use Rattle.lists.specs.Tests.{every}
 use Rattle.lists.specs.Facts.{_∈_, every-at, and-l, and-r, both, same-test}
-use Rattle.lists.specs.MoreFacts.{every-same}
 use Rattle.stamp.specs.Stamp.{Stamp, part}
 use Rattle.ledger.specs.Record.{Record, knows, isApplied, everywhere, mayGo}
 
@@ -35,11 +32,6 @@ part-meet [] b k = omega arith
 part-meet (x ∷ a) [] k = omega arith
 part-meet (x ∷ a) (y ∷ b) zero = refl
 part-meet (x ∷ a) (y ∷ b) (suc k) = part-meet a b k
-
-pub length-meet : (a b : Stamp) → length a ≡ length b → length (meet a b) ≡ length a
-length-meet [] b e = refl
-length-meet (x ∷ a) [] e = omega arith
-length-meet (x ∷ a) (y ∷ b) e = ap suc (length-meet a b (omega arith))
 
 -- a number at most the lowest part is at most the stamp's and at most each row's
 lowest-first : (s : Stamp) (rows : List Stamp) (k : ℕ) → part (lowestFrom s rows) k ≤ part s k
@@ -74,6 +66,3 @@ module _ (s : Stamp) (rows : List Stamp) (among : s ∈ rows) where
   pub mayGo-lowest : (r : Record) → mayGo s rows r ≡ goesBy s (lowestFrom s rows) r
   unfolding mayGo goesBy
   mayGo-lowest r = ap (λ (b : Bool). isApplied s r && b) (everywhere-lowest (r .origin) (r .number))
-
-  pub none-goes : (log : List Record) → every (λ r. not (mayGo s rows r)) log ≡ every (λ r. not (goesBy s (lowestFrom s rows) r)) log
-  none-goes log = every-same (λ r. not (mayGo s rows r)) (λ r. not (goesBy s (lowestFrom s rows) r)) log (λ r. ap not (mayGo-lowest r))

@@ -1,4 +1,5 @@
 // The log on a lent slice: rows of eleven words, by origin, then number. Knows nothing of what a body means.
+use ledger::FIRST_NUMBER;
 use stamp::PARTS;
 use stamp::at_most;
 use stamp::fits;
@@ -63,7 +64,7 @@ pub fn is_applied(row: &[u64], s: &[u64]) -> bool
     at_most(&row[LABEL..BODY], s)
 }
 
-pub fn is_waiting(row: &[u64], s: &[u64]) -> bool
+fn is_waiting(row: &[u64], s: &[u64]) -> bool
     requires { ⌜ length (now row) ≡ rowLong ⌝ }
     requires { ⌜ length (now s) ≡ stampLong ⌝ }
     ensures { λ r. ⌜ r ≡ isWaiting (now (s .entry)) (recordAt (now (row .entry))) ⌝ }
@@ -87,14 +88,14 @@ pub fn goes(row: &[u64], s: &[u64], low: &[u64]) -> bool
 }
 
 // The field rules of a record in a house of n screens, but that of its body.
-pub fn row_fits(row: &[u64], n: usize) -> bool
+fn row_fits(row: &[u64], n: usize) -> bool
     requires { ⌜ length (now row) ≡ rowLong ⌝ }
     ensures { λ r. ⌜ r ≡ recordFits (λ _. true) n (recordAt (now (row .entry))) ⌝ }
 {
     if n as u64 <= row[ORIGIN] {
         return false;
     }
-    if row[NUMBER] < 1 {
+    if row[NUMBER] < FIRST_NUMBER {
         return false;
     }
     if row[NUMBER] <= part_at(&row[LABEL..BODY], row[ORIGIN]) {
@@ -104,7 +105,7 @@ pub fn row_fits(row: &[u64], n: usize) -> bool
 }
 
 // What soundness asks of a record alone. Once it fits, the value stamp covers its stamp exactly when the record is applied under it.
-pub fn row_sound(row: &[u64], n: usize, known: &[u64], low: &[u64], value: &[u64]) -> bool
+fn row_sound(row: &[u64], n: usize, known: &[u64], low: &[u64], value: &[u64]) -> bool
     requires { ⌜ length (now row) ≡ rowLong ⌝ }
     requires { ⌜ (length (now known) ≡ stampLong) × (length (now value) ≡ stampLong) ⌝ }
     ensures { λ r. ⌜ r ≡ rowSound n (now (known .entry)) (now (low .entry)) (now (value .entry)) (recordAt (now (row .entry))) ⌝ }
@@ -243,7 +244,7 @@ pub fn climb_row(row: &[u64], reached: &mut [u64])
 }
 
 // How far the numbers of each origin go without a gap from those reached, written over them.
-pub fn climb_rows(r: &[u64], count: usize, reached: &mut [u64])
+fn climb_rows(r: &[u64], count: usize, reached: &mut [u64])
     requires { ⌜ count * rowLong ≤ length (now r) ⌝ }
     ensures { λ _. ⌜ (now (reached .exit) ≡ climb (now (reached .entry)) (recordsAt count (now (r .entry)))) × (length (now (reached .exit)) ≡ length (now (reached .entry))) ⌝ }
 {

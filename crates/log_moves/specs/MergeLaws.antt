@@ -1,6 +1,5 @@
 -- Laws of the merge from the back, on records: the last of the new ones first. Assumes nothing.
 --     gathered-none    with nothing new the log is as it was
---     gathered-one     one new record: those not after it, it, those after it
 --     gathered-last    of many, the last stands before those after it and behind all else
 --     fresh-rest       the others are fresh to what is left
 --     length-gathered  each new record makes the log one longer
@@ -55,9 +54,6 @@ module _ (new : List Record) (x : Record) (rs : List Record) (fresh : Fresh (new
         sorted = keep-rising place (λ r. not (keyBefore (place x) (place r))) rs (fresh .sorted);
         apart = λ y r m n. fresh .apart y r (Memᴰ·append-left (x ∷ []) m) (keep-mem (λ z. not (keyBefore (place x) (place z))) rs n .0);
       }
-
-pub gathered-one : (x : Record) (rs : List Record) → Fresh (x ∷ []) rs → gathered (x ∷ []) rs ≡ beforeOf x rs ++ (x ∷ afterOf x rs)
-gathered-one x rs fresh = gathered-last [] x rs fresh ∙ ap (λ (l : List Record). l ++ (x ∷ afterOf x rs)) (gathered-none (beforeOf x rs))
 
 pub length-gathered : (new rs : List Record) → Fresh new rs → length (gathered new rs) ≡ length new + length rs
 unfolding gathered

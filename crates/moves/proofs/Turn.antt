@@ -35,7 +35,7 @@ use Rattle.layout.specs.Held.{Held, log-words, counted-words, put-value, put-lo
 use Rattle.layout.specs.With.{withValue, withLog, withCounted, withPrompts}
 use Rattle.layout.specs.Words.{bookOf, wordsOf}
 use Rattle.layout.specs.WordsLaws.{Shape}
-use Rattle.moves.specs.Moves.{countOne, added, isNew, applyOne, applyAll, shed, settled}
+use Rattle.moves.specs.Moves.{countOne, added, isNewlyApplied, applyOne, applyAll, shed, settled}
 use Rattle.moves.specs.Places.{noRecord, held-is, book-is, log-count, counted-count}
 use Rattle.moves.specs.Ready.{Countable, Insertable, Applicable, Ready, appliedFrom, from-me, from-known, from-shape, from-log, from-none, from-all, from-next, newly-next, from-applicable}
 
@@ -167,20 +167,20 @@ module _ (ws : List ℕ) (h : Held ws) (r : Record) (o : length (stampOf r) ≡ 
 
 -- one record of the log, by the two tests
 module _ (before now : Stamp) (r : Record) (b : Book) where
-  pub not-now : isApplied now r ≡ false → (applyOne before now r b ≡ b) × (isNew before now r ≡ false)
-  unfolding applyOne isNew
+  pub not-now : isApplied now r ≡ false → (applyOne before now r b ≡ b) × (isNewlyApplied before now r ≡ false)
+  unfolding applyOne isNewlyApplied
   not-now e = (rw e, rw e)
 
-  pub was-before : isApplied before r ≡ true → (applyOne before now r b ≡ b) × (isNew before now r ≡ false)
-  unfolding applyOne isNew
+  pub was-before : isApplied before r ≡ true → (applyOne before now r b ≡ b) × (isNewlyApplied before now r ≡ false)
+  unfolding applyOne isNewlyApplied
   was-before e = go (isApplied now r)
     where
       go : (c : Bool) → (cond (c && not (isApplied before r)) (added r b) b ≡ b) × ((c && not (isApplied before r)) ≡ false)
       go true = (rw e, rw e)
       go false = (refl, refl)
 
-  pub newly : isApplied now r ≡ true → isApplied before r ≡ false → (applyOne before now r b ≡ added r b) × (isNew before now r ≡ true)
-  unfolding applyOne isNew
+  pub newly : isApplied now r ≡ true → isApplied before r ≡ false → (applyOne before now r b ≡ added r b) × (isNewlyApplied before now r ≡ true)
+  unfolding applyOne isNewlyApplied
   newly e f = (rw (e, f), rw (e, f))
 
 -- the log from its end to its start
@@ -215,7 +215,7 @@ module _ (before now : Stamp) (ws : List ℕ) (h : Held ws) (y : Ready before no
     pub turn-words : wordsOf (applyOne before now (getD ((bookOf vs) .log) i noRecord) (bookOf vs)) ≡ wordsOf (appliedFrom before now (bookOf ws) i)
     turn-words = rw (same-record, there) (ap wordsOf (from-next before now (bookOf ws) y i l))
 
-    pub turn-newly : (n : ℕ) → n ≡ length (newlyApplied before now (drop (i + 1) ((bookOf ws) .log))) → n + bit (isNew before now (getD ((bookOf vs) .log) i noRecord)) ≡ length (newlyApplied before now (drop i ((bookOf ws) .log)))
+    pub turn-newly : (n : ℕ) → n ≡ length (newlyApplied before now (drop (i + 1) ((bookOf ws) .log))) → n + bit (isNewlyApplied before now (getD ((bookOf vs) .log) i noRecord)) ≡ length (newlyApplied before now (drop i ((bookOf ws) .log)))
     turn-newly n f = rw same-record (omega (arith, newly-next before now (bookOf ws) y i l))
 
   pub log-end : (i : ℕ) → i ≤ 0 → (wordsOf (appliedFrom before now (bookOf ws) i) ≡ wordsOf (applyAll before now ((bookOf ws) .log) (bookOf ws))) × (length (newlyApplied before now (drop i ((bookOf ws) .log))) ≡ length (newlyApplied before now ((bookOf ws) .log)))

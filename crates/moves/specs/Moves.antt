@@ -18,15 +18,15 @@ unfoldable pub countOne : Tap → Book → Book
 countOne t b = cond (among (b .counted) t) b (withCounted (insert fields t (b .counted)) (withPrompts (notedAt t (b .prompts)) b))
 
 -- applied under the known stamp `now`, and not under the one before
-unfoldable pub isNew : Stamp → Stamp → Record → Bool
-isNew before now r = isApplied now r && not (isApplied before r)
+unfoldable pub isNewlyApplied : Stamp → Stamp → Record → Bool
+isNewlyApplied before now r = isApplied now r && not (isApplied before r)
 
 -- a newly applied record adds to the value stamp and the counted taps that it finds
 abbrev pub added : Record → Book → Book
 added r b = countOne (tapOf (r .body)) (withValue (merge (stampOf r) (b .value)) b)
 
 unfoldable pub applyOne : Stamp → Stamp → Record → Book → Book
-applyOne before now r b = cond (isNew before now r) (added r b) b
+applyOne before now r b = cond (isNewlyApplied before now r) (added r b) b
 
 -- every record of a list, the last one first
 abbrev pub applyAll : Stamp → Stamp → List Record → Book → Book

@@ -20,7 +20,7 @@ use Rattle.prompts.specs.RegionLaws.{afresh-insert, prompt-word}
 use Rattle.meaning.specs.Book.{Book, known, row}
 use Rattle.meaning.specs.Step.{nowApplied, tapsOf, nowCounted, settle}
 use Rattle.layout.specs.With.{withTable, withValue, withLog, withCounted, withPrompts}
-use Rattle.moves.specs.Moves.{countOne, added, isNew, applyOne, applyAll, settled}
+use Rattle.moves.specs.Moves.{countOne, added, isNewlyApplied, applyOne, applyAll, settled}
 
 -- the book with its value stamp merged with those of some records, and their taps counted
 abbrev pub absorbed : List Record → Book → Book
@@ -49,7 +49,7 @@ module _ (b : Book) (order : T (rising fields (b .counted))) (follow : b .prompt
   one :
       (before now : Stamp) (r : Record) (rs : List Record)
       → applyOne before now r (absorbed rs b) ≡ absorbed (cond (isApplied now r && not (isApplied before r)) (r ∷ rs) rs) b
-  unfolding applyOne isNew tapsOf countAll flatMap
+  unfolding applyOne isNewlyApplied tapsOf countAll flatMap
   one before now r rs = go (isApplied now r && not (isApplied before r))
     where
       go :

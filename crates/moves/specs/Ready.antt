@@ -29,7 +29,7 @@ use Rattle.meaning.specs.Book.{Book, row, known}
 use Rattle.meaning.specs.SettleLaws.{taps-mem}
 use Rattle.meaning.specs.Step.{tapsOf}
 use Rattle.layout.specs.WordsLaws.{Shape}
-use Rattle.moves.specs.Moves.{isNew, applyOne, applyAll}
+use Rattle.moves.specs.Moves.{isNewlyApplied, applyOne, applyAll}
 use Rattle.moves.specs.MovesLaws.{absorbed, apply-all}
 use Rattle.moves.specs.Places.{noRecord}
 
@@ -48,7 +48,7 @@ pub record Insertable (w : ℕ) (b : Book) : Type 0 where
 -- a record can be applied, if it is newly applied
 pub record Applicable (before now : Stamp) (r : Record) (b : Book) : Type 0 where
   pub origin : r .origin < 8
-  pub countable : T (isNew before now r) → Countable (r .body) b
+  pub countable : T (isNewlyApplied before now r) → Countable (r .body) b
 
 -- every newly applied record of the log can be applied
 pub record Ready (before now : Stamp) (b : Book) : Type 0 where
@@ -92,9 +92,9 @@ module _ (before now : Stamp) (cs : List Tap) where
 
   -- a newly applied record's tap is one more
   pub one-counted :
-      (r : Record) (rs : List Record) → T (isNew before now r)
+      (r : Record) (rs : List Record) → T (isNewlyApplied before now r)
       → countAll (tapsOf (newlyApplied before now (r ∷ rs))) cs ≡ insert fields (tapOf (r .body)) (countAll (tapsOf (newlyApplied before now rs)) cs)
-  unfolding isNew newlyApplied tapsOf countAll flatMap
+  unfolding isNewlyApplied newlyApplied tapsOf countAll flatMap
   one-counted r rs t = go (isApplied now r && not (isApplied before r)) t
     where
       go :
@@ -184,8 +184,8 @@ module _ (before now : Stamp) (b : Book) (y : Ready before now b) where
         ∙ apply-all b (y .order) (y .follow) before now (getD (b .log) i noRecord ∷ drop (i + 1) (b .log))
         ∙ ap (λ (rs : List Record). absorbed (newlyApplied before now rs) b) (sym next)
 
-    pub newly-next : length (newlyApplied before now (drop i (b .log))) ≡ bit (isNew before now (getD (b .log) i noRecord)) + length (newlyApplied before now (drop (i + 1) (b .log)))
-    unfolding newlyApplied isNew
+    pub newly-next : length (newlyApplied before now (drop i (b .log))) ≡ bit (isNewlyApplied before now (getD (b .log) i noRecord)) + length (newlyApplied before now (drop (i + 1) (b .log)))
+    unfolding newlyApplied isNewlyApplied
     newly-next = rw next (keep-length (λ r. isApplied now r && not (isApplied before r)) (getD (b .log) i noRecord) (drop (i + 1) (b .log)))
 
     pub from-applicable : Applicable before now (getD (b .log) i noRecord) (appliedFrom before now b (i + 1))

@@ -48,7 +48,7 @@ ghost use Rattle.meaning.specs.Book.{known};
 ghost use Rattle.layout.specs.Held.{Held};
 ghost use Rattle.layout.specs.With.{withValue, withCounted, withPrompts};
 ghost use Rattle.layout.specs.Words.{bookOf, wordsOf};
-ghost use Rattle.moves.specs.Moves.{countOne, added, isNew, applyOne, applyAll, shed, settled};
+ghost use Rattle.moves.specs.Moves.{countOne, added, isNewlyApplied, applyOne, applyAll, shed, settled};
 ghost use Rattle.moves.specs.Places.{noRecord};
 ghost use Rattle.moves.specs.Ready.{Countable, Insertable, Applicable, Ready};
 
@@ -62,14 +62,6 @@ pub fn known_of(b: &[u64]) -> [u64; PARTS]
     list_of(parts_at(b, at))
 }
 
-// The value stamp.
-pub fn value_of(b: &[u64]) -> [u64; PARTS]
-    requires { ⌜ Held (now b) ⌝ }
-    ensures { λ r. ⌜ r ≡ (bookOf (now (b .entry))) .value ⌝ }
-{
-    list_of(parts_at(b, VALUE))
-}
-
 // The row at a place.
 fn row_at(b: &[u64], at: usize) -> [u64; ROW]
     requires { ⌜ at + rowLong ≤ length (now b) ⌝ }
@@ -77,7 +69,7 @@ fn row_at(b: &[u64], at: usize) -> [u64; ROW]
 {
     let p = parts_at(b, at + LABEL);
     [
-        b[at],
+        b[at + ORIGIN],
         b[at + NUMBER],
         p.p0,
         p.p1,
@@ -109,7 +101,7 @@ fn merge_at(b: &mut [u64], a: usize, e: usize, s: &[u64])
 }
 
 // A stamp merged into the value stamp.
-pub fn merge_value(b: &mut [u64], s: &[u64])
+fn merge_value(b: &mut [u64], s: &[u64])
     requires { ⌜ Held (now b) ⌝ }
     requires { ⌜ length (now s) ≡ stampLong ⌝ }
     ensures { λ _. ⌜ now (b .exit) ≡ wordsOf (withValue (merge (now (s .entry)) ((bookOf (now (b .entry))) .value)) (bookOf (now (b .entry)))) ⌝ }
@@ -163,7 +155,7 @@ fn insert_tap(b: &mut [u64], w: u64)
 }
 
 // Counts the tap of w, unless it is counted.
-pub fn count_tap(b: &mut [u64], w: u64)
+fn count_tap(b: &mut [u64], w: u64)
     requires { ⌜ Held (now b) ⌝ }
     requires { ⌜ Countable w (bookOf (now b)) ⌝ }
     ensures { λ _. ⌜ now (b .exit) ≡ wordsOf (countOne (tapOf w) (bookOf (now (b .entry)))) ⌝ }
@@ -199,13 +191,13 @@ fn apply_record(b: &mut [u64], row: &[u64])
 }
 
 // Applies the log's i-th record if it is applied under s and was not before. Tells whether.
-pub fn apply_row(b: &mut [u64], i: usize, before: &[u64], s: &[u64]) -> bool
+fn apply_row(b: &mut [u64], i: usize, before: &[u64], s: &[u64]) -> bool
     requires { ⌜ Held (now b) ⌝ }
     requires { ⌜ i < length ((bookOf (now b)) .log) ⌝ }
     requires { ⌜ (length (now before) ≡ stampLong) × (length (now s) ≡ stampLong) ⌝ }
     requires { ⌜ Applicable (now before) (now s) (getD ((bookOf (now b)) .log) i noRecord) (bookOf (now b)) ⌝ }
     ensures { λ _. ⌜ now (b .exit) ≡ wordsOf (applyOne (now (before .entry)) (now (s .entry)) (getD ((bookOf (now (b .entry))) .log) i noRecord) (bookOf (now (b .entry)))) ⌝ }
-    ensures { λ r. ⌜ r ≡ isNew (now (before .entry)) (now (s .entry)) (getD ((bookOf (now (b .entry))) .log) i noRecord) ⌝ }
+    ensures { λ r. ⌜ r ≡ isNewlyApplied (now (before .entry)) (now (s .entry)) (getD ((bookOf (now (b .entry))) .log) i noRecord) ⌝ }
 {
     let row = log_row(b, i);
     if !is_applied(&row, s) {
@@ -225,7 +217,7 @@ fn one_if(b: bool) -> u64
 }
 
 // Applies what of the log is applied under s and was not before, from the last record to the first. Gives how many.
-pub fn apply_log(b: &mut [u64], before: &[u64], s: &[u64]) -> u64
+fn apply_log(b: &mut [u64], before: &[u64], s: &[u64]) -> u64
     requires { ⌜ Held (now b) ⌝ }
     requires { ⌜ (length (now before) ≡ stampLong) × (length (now s) ≡ stampLong) ⌝ }
     requires { ⌜ Ready (now before) (now s) (bookOf (now b)) ⌝ }
@@ -251,7 +243,7 @@ fn lowest_at(b: &[u64], a: usize, e: usize, n: usize, low: &mut [u64])
 }
 
 // A stamp met with each row of the table.
-pub fn low_of(b: &[u64], s: &[u64]) -> [u64; PARTS]
+fn low_of(b: &[u64], s: &[u64]) -> [u64; PARTS]
     requires { ⌜ Held (now b) ⌝ }
     requires { ⌜ length (now s) ≡ stampLong ⌝ }
     ensures { λ r. ⌜ r ≡ lowestFrom (now (s .entry)) ((bookOf (now (b .entry))) .table) ⌝ }
@@ -272,7 +264,7 @@ fn drop_at(b: &mut [u64], a: usize, e: usize, count: usize, s: &[u64], low: &[u6
 }
 
 // Drops from the log what is applied under the known stamp s and known everywhere.
-pub fn drop_log(b: &mut [u64], s: &[u64])
+fn drop_log(b: &mut [u64], s: &[u64])
     requires { ⌜ Held (now b) ⌝ }
     requires { ⌜ (bookOf (now b)) .me < (bookOf (now b)) .screens ⌝ }
     requires { ⌜ now s ≡ known (bookOf (now b)) ⌝ }

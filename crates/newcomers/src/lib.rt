@@ -25,7 +25,7 @@ ghost use Rattle.gossip.specs.Message.{countIn, recordsIn};
 ghost use Rattle.newcomers.specs.Head.{Head, recordNo};
 
 // The row of record i. The head has n screens and stamp m.
-pub fn row_for(msg: &[u8], i: usize, n: usize, m: Parts) -> [u64; ROW]
+fn row_for(msg: &[u8], i: usize, n: usize, m: Parts) -> [u64; ROW]
     requires { ⌜ Head (now msg) n (listOf m) ⌝ }
     requires { ⌜ i < countIn (now msg) ⌝ }
     ensures { λ r. ⌜ recordAt r ≡ recordNo (now (msg .entry)) i ⌝ }
@@ -65,14 +65,7 @@ fn one_new(row: &[u64], known: &[u64]) -> usize
 
 // One pass over the records: how far the numbers of each origin go without a gap from those reached, written over them. Gives
 // how many records are not known under a stamp.
-pub fn survey(
-    msg: &[u8],
-    count: usize,
-    n: usize,
-    m: Parts,
-    known: &[u64],
-    reached: &mut [u64],
-) -> usize
+fn survey(msg: &[u8], count: usize, n: usize, m: Parts, known: &[u64], reached: &mut [u64]) -> usize
     requires { ⌜ Head (now msg) n (listOf m) ⌝ }
     requires { ⌜ countIn (now msg) ≡ count ⌝ }
     ensures { λ _. ⌜ (now (reached .exit) ≡ climb (now (reached .entry)) (recordsIn (now (msg .entry)))) × (length (now (reached .exit)) ≡ length (now (reached .entry))) ⌝ }

@@ -3,16 +3,15 @@ use Prim.Native.Nat.{ℕ, zero, suc, _+_, _-_, _*_, _≤_}
 use native.Mathlib.Nat.{zero-add}
 use native.Mathlib.Omega.{arith}
 use mathlib.Core.Path.{_≡_, refl, sym, ap, ap₂, _∙_}
-use mathlib.Core.List.{List, [], _∷_, _++_, map, append-nil}
+use mathlib.Core.List.{List, [], _∷_, _++_, map}
 use lib.ListN.{length, drop, replicate, set, length-replicate}
 use Rattle.lists.specs.Pieces.{sumOf}
 use Rattle.lists.specs.Rows.{flat}
 use Rattle.stamp.specs.Limits.{parts}
-use Rattle.stamp.specs.Stamp.{Stamp, zeros}
+use Rattle.stamp.specs.Stamp.{zeros}
 use Rattle.ledger.specs.Limits.{most, logRoom, bookRoom}
-use Rattle.log.specs.Region.{rowLong, logWords}
+use Rattle.log.specs.Region.{logWords}
 use Rattle.counted.specs.Region.{tapWords}
-use Rattle.prompts.specs.Region.{promptWords, standingWords}
 use Rattle.prompts.specs.RegionLaws.{words-fresh}
 use Rattle.meaning.specs.Book.{fresh}
 use Rattle.layout.specs.Words.{sizes, bookLong, tableWords, pieces, wordsOf}

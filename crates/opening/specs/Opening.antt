@@ -1,4 +1,4 @@
--- What an opening says, and the words of a fresh book. Assumes nothing.
+-- What an opening says, and what open answers and leaves. Assumes nothing.
 use Prim.Native.Nat.{ℕ}
 use mathlib.Core.Path.{_≡_}
 use mathlib.Core.List.{List}

@@ -6,6 +6,7 @@ use wire::ALREADY;
 use wire::BAD;
 use wire::GOSSIP_TAKEN;
 use wire::GOSSIP_TAKEN_BODY;
+use wire::KIND_SIZE;
 use wire::REFUSAL;
 use wire::REFUSAL_BODY;
 use wire::Said;
@@ -29,35 +30,35 @@ ghost use Rattle.wire.specs.Write.{Meets, putLine, writeAs};
 ghost use Rattle.wire.specs.declared.Said.the-variants as said;
 
 // A line holds the kind, then the fields; each message is as long as its widths together.
-const TAKEN_LINE: usize = 9;
+const STAMP_LINE: usize = 9;
 
-const TAKEN_WIDTHS: [usize; TAKEN_LINE] = [1, 4, 4, 4, 4, 4, 4, 4, 4];
+const STAMP_WIDTHS: [usize; STAMP_LINE] = [1, 4, 4, 4, 4, 4, 4, 4, 4];
 
-const TAKEN_SIZE: usize = 1 + TAKEN_BODY;
+const STAMP_SIZE: usize = KIND_SIZE + TAKEN_BODY;
 
 const VERDICT_LINE: usize = 13;
 
 const VERDICT_WIDTHS: [usize; VERDICT_LINE] = [1, 1, 2, 4, 4, 4, 4, 4, 4, 4, 4, 4, 4];
 
-const VERDICT_SIZE: usize = 1 + VERDICT_BODY;
+const VERDICT_SIZE: usize = KIND_SIZE + VERDICT_BODY;
 
 const WAIT_LINE: usize = 2;
 
 const WAIT_WIDTHS: [usize; WAIT_LINE] = [1, 1];
 
-const WAIT_SIZE: usize = 1 + WAIT_BODY;
+const WAIT_SIZE: usize = KIND_SIZE + WAIT_BODY;
 
 const REFUSAL_LINE: usize = 2;
 
 const REFUSAL_WIDTHS: [usize; REFUSAL_LINE] = [1, 1];
 
-const REFUSAL_SIZE: usize = 1 + REFUSAL_BODY;
+const REFUSAL_SIZE: usize = KIND_SIZE + REFUSAL_BODY;
 
 const GOSSIP_TAKEN_LINE: usize = 3;
 
 const GOSSIP_TAKEN_WIDTHS: [usize; GOSSIP_TAKEN_LINE] = [1, 2, 2];
 
-const GOSSIP_TAKEN_SIZE: usize = 1 + GOSSIP_TAKEN_BODY;
+const GOSSIP_TAKEN_SIZE: usize = KIND_SIZE + GOSSIP_TAKEN_BODY;
 
 // Where the fields stand in a line.
 const FIRST: usize = 1;
@@ -90,8 +91,8 @@ pub fn read_taken(msg: &[u8]) -> Said
     if !is_kind(msg, TAKEN) {
         return Said::Unreadable(BAD);
     }
-    let mut line = [0u64; TAKEN_LINE];
-    read_fields(&mut line, &TAKEN_WIDTHS, msg);
+    let mut line = [0u64; STAMP_LINE];
+    read_fields(&mut line, &STAMP_WIDTHS, msg);
     Said::Taken(parts_at(&line, FIRST))
 }
 
@@ -107,8 +108,8 @@ pub fn read_already(msg: &[u8]) -> Said
     if !is_kind(msg, ALREADY) {
         return Said::Unreadable(BAD);
     }
-    let mut line = [0u64; TAKEN_LINE];
-    read_fields(&mut line, &TAKEN_WIDTHS, msg);
+    let mut line = [0u64; STAMP_LINE];
+    read_fields(&mut line, &STAMP_WIDTHS, msg);
     Said::Already(parts_at(&line, FIRST))
 }
 
@@ -123,7 +124,7 @@ fn put_stamp(kind: u8, s: Parts, out: &mut [u8]) -> Written
     ensures { λ r. ⌜ Meets (putLine (1 ∷ stampBody) (kind ∷ listOf s) (now (out .entry))) r (now (out .exit)) ⌝ }
 {
     let line = [kind as u64, s.p0, s.p1, s.p2, s.p3, s.p4, s.p5, s.p6, s.p7];
-    put_line(&TAKEN_WIDTHS, TAKEN_SIZE, &line, out)
+    put_line(&STAMP_WIDTHS, STAMP_SIZE, &line, out)
 }
 
 fn verdict_fits(verdict: u64) -> bool

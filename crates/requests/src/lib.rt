@@ -1,5 +1,6 @@
 // Requests: what a screen is sent, each kind with its reader and its writer. A gossip message is a head and then records.
 use fields::read_fields;
+use ledger::FIRST_NUMBER;
 use ledger::LOG_ROOM;
 use ledger::in_range;
 use stamp::Parts;
@@ -91,9 +92,6 @@ const RECORD_TAP: usize = 11;
 const TAP_LABEL: usize = 6;
 
 const QUESTION_LABEL: usize = 2;
-
-// Where numbers start.
-const FIRST_NUMBER: u64 = 1;
 
 // The tap that stands in a line from a place on.
 fn tap_at(line: &[u64], at: usize) -> Tap

@@ -1,6 +1,6 @@
 -- Laws of the word: word and fields give each other back, the numeric order of words is the order of the five fields, and two
 -- taps are the same exactly when the words are. Assumes nothing.
-use Prim.Native.Nat.{ℕ, _/_, _%_, _<_, _^_}
+use Prim.Native.Nat.{ℕ, _/_, _%_, _<_}
 use native.Mathlib.Omega.{arith}
 use mathlib.Core.Path.{_≡_, sym, ap, ap₂, subst, _∙_}
 use mathlib.Core.Bool.{true}
@@ -39,18 +39,12 @@ tap-word t h =
     let e : wordOf t % 4 ≡ t .answer = omega arith in
     λ i. record { front = a i; serial = b i; prompt = p i; showing = d i; answer = e i }
 
-pub word-small : (t : Tap) → FitsBits t → wordOf t < 2 ^ 64
-word-small t h = omega arith
-
 -- the fields below the front end fit their bits: all that the order needs, and so of any number
 record LowFits (t : Tap) : Type 0 where
   serial : t .serial < 4294967296
   prompt : t .prompt < 64
   showing : t .showing < 65536
   answer : t .answer < 4
-
-low-bits : (t : Tap) → FitsBits t → LowFits t
-low-bits t h = record { serial = h .serial; prompt = h .prompt; showing = h .showing; answer = h .answer }
 
 low-word : (w : ℕ) → LowFits (tapOf w)
 low-word w = record { serial = omega arith; prompt = omega arith; showing = omega arith; answer = omega arith }
@@ -80,9 +74,6 @@ order t u h k =
     same-test (keyBefore (fields t) (fields u)) (ltb (wordOf t) (wordOf u)) (λ b. lt→ltb (wordOf t) (wordOf u) (before-word t u h k b))
     (λ l. word-before t u h k (ltb→lt (wordOf t) (wordOf u) l))
 
-pub word-order : (t u : Tap) → FitsBits t → FitsBits u → keyBefore (fields t) (fields u) ≡ ltb (wordOf t) (wordOf u)
-word-order t u h k = order t u (low-bits t h) (low-bits u k)
-
 pub tap-order : (v w : ℕ) → keyBefore (fields (tapOf v)) (fields (tapOf w)) ≡ ltb v w
 tap-order v w = order (tapOf v) (tapOf w) (low-word v) (low-word w) ∙ ap₂ ltb (word-tap v) (word-tap w)
 
@@ -94,11 +85,6 @@ same-tap t u s = fields-same t u (sameKey→≡ (fields t) (fields u) s)
 pub tap-same : (t : Tap) → T (sameTap t t)
 unfolding sameTap
 tap-same t = sameKey-refl (fields t)
-
-pub same-word : (t u : Tap) → FitsBits t → FitsBits u → sameTap t u ≡ eqb (wordOf t) (wordOf u)
-same-word t u h k =
-    same-test (sameTap t u) (eqb (wordOf t) (wordOf u)) (λ s. eq→eqb (wordOf t) (wordOf u) (ap wordOf (same-tap t u s)))
-    (λ e. subst (λ (x : Tap). T (sameTap t x)) (sym (tap-word t h) ∙ ap tapOf (eqb→eq (wordOf t) (wordOf u) e) ∙ tap-word u k) (tap-same t))
 
 pub tap-equal : (v w : ℕ) → sameTap (tapOf v) (tapOf w) ≡ eqb v w
 tap-equal v w =

@@ -15,6 +15,15 @@ const LAST_PROMPT: u64 = 63;
 
 const LAST_SHOWING: u64 = 65535;
 
+// How many values each field of a word below the front end may take.
+const SERIALS: u64 = LAST_SERIAL + 1;
+
+const PROMPTS: u64 = LAST_PROMPT + 1;
+
+const SHOWINGS: u64 = LAST_SHOWING + 1;
+
+const ANSWERS: u64 = 4;
+
 const ACCEPT: u64 = 1;
 
 const DECLINE: u64 = 2;
@@ -48,7 +57,8 @@ pub fn pack(t: Tap) -> u64
     requires { ⌜ FitsBits t ⌝ }
     ensures { λ r. ⌜ r ≡ wordOf t ⌝ }
 {
-    (((t.front * 4294967296 + t.serial) * 64 + t.prompt) * 65536 + t.showing) * 4 + t.answer
+    (((t.front * SERIALS + t.serial) * PROMPTS + t.prompt) * SHOWINGS + t.showing) * ANSWERS
+        + t.answer
 }
 
 // The tap that a word holds.
@@ -56,11 +66,11 @@ pub fn unpack(w: u64) -> Tap
     ensures { λ r. ⌜ r ≡ tapOf w ⌝ }
 {
     Tap {
-        front: w / 4 / 65536 / 64 / 4294967296,
-        serial: w / 4 / 65536 / 64 % 4294967296,
-        prompt: w / 4 / 65536 % 64,
-        showing: w / 4 % 65536,
-        answer: w % 4,
+        front: w / ANSWERS / SHOWINGS / PROMPTS / SERIALS,
+        serial: w / ANSWERS / SHOWINGS / PROMPTS % SERIALS,
+        prompt: w / ANSWERS / SHOWINGS % PROMPTS,
+        showing: w / ANSWERS % SHOWINGS,
+        answer: w % ANSWERS,
     }
 }
 

@@ -1,5 +1,5 @@
 -- `gossip_moves::merge_row` meets its contract. Assumes nothing.
-use Prim.Native.Nat.{_+_, _-_, _*_, _<_}
+use Prim.Native.Nat.{_+_, _-_, _*_}
 use native.Mathlib.Omega.{arith}
 use mathlib.Core.Path.{_≡_}
 use Rattle.lists.specs.Part.{mid, patch}

@@ -1,5 +1,4 @@
 -- `gossip_moves::merge_row_at` meets its contract. Assumes nothing.
-use Prim.Native.Nat.{_<_}
 use Rattle.lists.specs.Part.{mid, patch}
 use borrow.Author.Needs.{needs}
 use Rattle.gossip_moves.proofs.merge_row_at.Statement.{statement}

@@ -1,5 +1,4 @@
 -- `gossip_moves::raise_rows` meets its contract. Assumes nothing.
-use Prim.Native.Nat.{_<_}
 use native.Mathlib.Omega.{arith}
 use mathlib.Core.Path.{_∙_}
 use Rattle.layout.specs.Words.{bookOf}

@@ -1,5 +1,4 @@
 -- `gossip_stops::own_refusal` meets its contract. Assumes nothing.
-use Prim.Native.Nat.{_<_}
 use Rattle.gossip_stops.proofs.Lines.{own-ahead, own-spent, own-room}
 use borrow.Author.Needs.{needs}
 use Rattle.gossip_stops.proofs.own_refusal.Statement.{statement}

@@ -1,5 +1,4 @@
 -- `gossip_stops::row_of` meets its contract. Assumes nothing.
-use Prim.Native.Nat.{_<_}
 use native.Mathlib.Omega.{arith}
 use Rattle.moves.specs.Places.{held-long, screens-most}
 use Rattle.gossip_stops.proofs.Lines.{screens-word, row-read}

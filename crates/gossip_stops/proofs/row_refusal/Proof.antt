@@ -1,5 +1,4 @@
 -- `gossip_stops::row_refusal` meets its contract. Assumes nothing.
-use Prim.Native.Nat.{_<_}
 use mathlib.Core.Path.{sym, _∙_}
 use borrow.Author.Tests.{not-true, not-false}
 use Rattle.gossip_stops.proofs.Lines.{row-old, row-crossed, row-newer}

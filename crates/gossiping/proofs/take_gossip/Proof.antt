@@ -1,5 +1,4 @@
 -- `gossiping::take_gossip` meets its contract. Assumes nothing.
-use Prim.Native.Nat.{_<_}
 use mathlib.Core.Path.{sym, ap, subst, _∙_}
 use lib.Dec.{T}
 use Rattle.stamp.specs.Parts.{listOf}

@@ -1,5 +1,4 @@
 -- `gossiping::take_in` meets its contract. Assumes nothing.
-use Prim.Native.Nat.{_<_}
 use mathlib.Core.Path.{sym, subst, _∙_}
 use Rattle.stamp.specs.Parts.{listOf}
 use Rattle.layout.specs.SoundWords.{lawful-held}

@@ -6,7 +6,7 @@ use lib.ListN.{length, getD, drop}
 use Rattle.lists.specs.Facts.{bit}
 use Rattle.ledger.specs.Log.{newlyApplied}
 use Rattle.layout.specs.Words.{bookOf, wordsOf}
-use Rattle.moves.specs.Moves.{isNew}
+use Rattle.moves.specs.Moves.{isNewlyApplied}
 use Rattle.moves.specs.Places.{noRecord, held-long, log-count, log-most}
 use Rattle.moves.specs.Ready.{appliedFrom}
 use Rattle.moves.proofs.Turn.{log-start, turn-held, turn-in, turn-applicable, turn-words, turn-newly, log-end}
@@ -67,7 +67,7 @@ loop-again c =
     let f = subst (λ (k : ℕ). l .loop .n ≡ length (newlyApplied (w .before .now) (w .s .now) (drop k ((bookOf (w .b .now)) .log)))) back (l .loop .inv .3) in
     let h = s .pre .0 in
     let y = s .pre .1 .1 in
-    let one : c .one-if .result ≡ bit (isNew (w .before .now) (w .s .now) (getD ((bookOf (l .loop .b)) .log) (i - 1) noRecord)) = c .one-if .ensures .0 ∙ ap bit (a .apply-row .ensures .1) in (
+    let one : c .one-if .result ≡ bit (isNewlyApplied (w .before .now) (w .s .now) (getD ((bookOf (l .loop .b)) .log) (i - 1) noRecord)) = c .one-if .ensures .0 ∙ ap bit (a .apply-row .ensures .1) in (
       search needs,
       search needs,
       a .apply-row .ensures .0 ∙ turn-words (w .before .now) (w .s .now) (w .b .now) h y (l .loop .b) (i - 1) lt e,

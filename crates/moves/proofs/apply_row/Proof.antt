@@ -7,7 +7,7 @@ use lib.ListN.{getD}
 use borrow.Author.Tests.{not-true, not-false}
 use Rattle.ledger.specs.Record.{Record, isApplied}
 use Rattle.layout.specs.Words.{bookOf, wordsOf}
-use Rattle.moves.specs.Moves.{added, isNew, applyOne}
+use Rattle.moves.specs.Moves.{added, isNewlyApplied, applyOne}
 use Rattle.moves.specs.Places.{noRecord}
 use Rattle.moves.specs.Ready.{Countable}
 use Rattle.moves.proofs.Turn.{not-now, was-before, newly}
@@ -21,7 +21,7 @@ found :
     → let w = t .before .before .before .before .before .before .before .before .before .before .before .args in
     let b = bookOf (w .b .now) in
     let r = getD (b .log) (w .i) noRecord in
-    (applyOne (w .before .now) (w .s .now) r b ≡ added r b) × (isNew (w .before .now) (w .s .now) r ≡ true)
+    (applyOne (w .before .now) (w .s .now) r b ≡ added r b) × (isNewlyApplied (w .before .now) (w .s .now) r ≡ true)
 found t =
     let a = t .before in
     let u = a .before .before in

@@ -1,4 +1,5 @@
 -- `moves::row_at` meets its contract. Assumes nothing.
+use native.Mathlib.Nat.{add-zero}
 use Rattle.stamp.specs.Parts.{partsAt, listOf}
 use Rattle.moves.specs.Places.{row-read}
 use borrow.Author.Needs.{needs}
@@ -9,7 +10,7 @@ returns : tie.Need-returns
 unfolding partsAt listOf
 returns c =
     let s = c .before .before .before .before .before in
-    rw (c .before .before .before .parts-at .ensures) (row-read (s .args .at) (s .args .b .now) (s .pre))
+    rw (c .before .before .before .parts-at .ensures, add-zero (s .args .at)) (row-read (s .args .at) (s .args .b .now) (s .pre))
 
 pub row-at-spec : {M : Type 1} → statement M
 row-at-spec =
@@ -17,6 +18,7 @@ row-at-spec =
     (tie.spec
     (λ c. search needs)
     (λ c κs. search needs)
+    (λ c. search needs)
     (λ c. search needs)
     (λ c. search needs)
     (λ c. search needs)

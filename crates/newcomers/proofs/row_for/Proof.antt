@@ -1,5 +1,4 @@
 -- `newcomers::row_for` meets its contract. Assumes nothing.
-use Prim.Native.Nat.{_<_}
 use mathlib.Core.Path.{sym, _∙_}
 use Rattle.stamp.specs.Parts.{listOf}
 use Rattle.newcomers.proofs.Turn.{part-inside, never-other, tap-bits, record-read}

@@ -1,5 +1,5 @@
 -- `opening::open_book` meets its contract. Assumes nothing.
-use mathlib.Core.Path.{_≡_, sym, ap, _∙_}
+use mathlib.Core.Path.{sym, ap, _∙_}
 use lib.ListN.{length, set}
 use mathlib.Core.List.{List}
 use Prim.Native.Nat.{ℕ}
