@@ -2,6 +2,7 @@
 --     short, front          what answering owes where the output is too short, and where it is not
 --     gossip-done ..        which request the byte of kind tells
 --     within                a reply is never empty and is within the room asked for, and that is within the room told beforehand
+--     one-answer            two outcomes that both meet the promise are equal
 --     answered, unanswered  with that room every message is answered; a message that is not answered changed nothing
 use Prim.Native.Nat.{ℕ, _+_, _*_, _≤_, _<_}
 use native.Mathlib.Omega.{arith}
@@ -26,7 +27,7 @@ use Rattle.layout.specs.Words.{bookOf, wordsOf, lawful}
 use Rattle.answers.specs.Lent.{Lent, tapOn, questionOn, gossipOn}
 use Rattle.speech.specs.Speech.{bytesFor, sayable, longOf, tapLong, questionLong, gossipLong}
 use Rattle.speech.specs.SpeechLaws.{reply-long, tap-says, tap-long, question-says, question-long, gossip-says, gossip-long}
-use Rattle.answering.specs.Answer.{Done, doneBy, sendDone, badOn, refusalLong, otherDone, kindIn, doneOn, answerBy, answerOn, Answers, roomFor}
+use Rattle.answering.specs.Answer.{Done, doneBy, sendDone, badOn, refusalLong, otherDone, kindIn, doneOn, Answered, answerBy, answerOn, Answers, roomFor}
 
 pub short : (d : Done) (ws out : List ℕ) → length out < d .room → Answers (answerBy d ws out) 0 ws out
 unfolding answerBy
@@ -142,3 +143,8 @@ module _ (ws bytes : List ℕ) where
       go : (c : Bool) → ltb (length out) (doneOn ws bytes .room) ≡ c → (answerOn ws bytes out .words ≡ ws) × (answerOn ws bytes out .bytes ≡ out)
       go true e = let a = short (doneOn ws bytes) ws out (ltb-true (length out) (doneOn ws bytes .room) e) in (sym (a .leaves), sym (a .writes))
       go false e = absurd (omega (arith, front (doneOn ws bytes) ws out (ltb-false (length out) (doneOn ws bytes .room) e) .gives, within .some, none))
+
+-- two outcomes that both meet what answering promises are equal
+pub one-answer :
+    (o : Answered) (long long′ : ℕ) (words words′ bytes bytes′ : List ℕ) → Answers o long words bytes → Answers o long′ words′ bytes′ → (long ≡ long′) × (words ≡ words′) × (bytes ≡ bytes′)
+one-answer o long long′ words words′ bytes bytes′ p q = (p .gives ∙ sym (q .gives), p .leaves ∙ sym (q .leaves), p .writes ∙ sym (q .writes))

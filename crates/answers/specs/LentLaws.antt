@@ -1,24 +1,27 @@
--- Laws: on the words of a sound book an operation is the step of that book; a promise has one outcome; a question changes nothing.
--- Assumes nothing.
+-- Laws: on the words of a sound book an operation is the step of that book; send answers by its list of stops; a promise has one
+-- outcome; a question changes nothing. Assumes nothing.
 use Prim.Native.Nat.{ℕ}
 use mathlib.Core.Path.{_≡_, refl, sym, ap, subst, _∙_}
-use mathlib.Core.Bool.{Bool, true, false, cond}
-use mathlib.Core.List.{List}
-use lib.Dec.{T}
-use lib.ListN.{getD}
+use mathlib.Core.Bool.{Bool, true, false, not, cond}
+use mathlib.Core.List.{List, [], _∷_, _++_}
+use mathlib.Core.Option.{Option, none, some}
+use lib.Dec.{T, ltb}
+use lib.ListN.{length, getD, drop}
 use Rattle.lists.specs.Facts.{is-true}
+use Rattle.lists.specs.Tests.{firstOf}
 use Rattle.stamp.specs.Parts.{partsAt}
 use Rattle.stamp.specs.PartsLaws.{parts-list}
 use Rattle.wire.specs.Kinds.{questionKind, stampAt}
 use Rattle.wire.specs.Read.{lineOf, readable}
-use Rattle.wire.specs.Write.{refuse}
+use Rattle.wire.specs.Write.{Output, refuse}
+use Rattle.wire.specs.declared.Written.the-variants.{Wrote}
 use Rattle.gossip.specs.Message.{bytesOf}
 use Rattle.meaning.specs.AnswerLaws.{ask-keeps}
 use Rattle.meaning.specs.Book.{Book}
 use Rattle.meaning.specs.BookLaws.{Sound}
-use Rattle.meaning.specs.Reply.{Reply, refusal}
+use Rattle.meaning.specs.Reply.{Reply, refusal, figures}
 use Rattle.meaning.specs.Reply as meaning
-use Rattle.meaning.specs.Step.{Outcome, ask, send}
+use Rattle.meaning.specs.Step.{Outcome, ask, send, sendStops}
 use Rattle.layout.specs.SoundWords.{sound-shape, sound-lawful, lawful-held}
 use Rattle.layout.specs.Words.{bookOf, wordsOf, lawful}
 use Rattle.layout.specs.WordsLaws.{book-words}
@@ -60,6 +63,25 @@ module _ (b : Book) (s : Sound b) where
   pub send-on : (out : List ℕ) → sendOn (wordsOf b) out ≡ putFront (bytesOf (send b)) out
   unfolding sendOn
   send-on out = ap (λ (c : Bool). cond c (putFront (bytesOf (send (bookOf (wordsOf b)))) out) (refuse 11 out)) lawful-now ∙ ap (λ (x : Book). putFront (bytesOf (send x)) out) book-back
+
+-- send answers by the first of its stops that holds
+abbrev sentBy : List ℕ → List ℕ → Option Reply → Output
+sentBy bytes out none = record { answer = Wrote (length bytes); bytes = bytes ++ drop (length bytes) out }
+sentBy bytes out (some r) = refuse (getD (figures r) 1 0) out
+
+pub send-first : (ws out : List ℕ) → let bytes = bytesOf (send (bookOf ws)) in sendOn ws out ≡ sentBy bytes out (firstOf (sendStops (lawful ws) (length bytes) (length out)))
+unfolding sendOn sendStops figures
+send-first ws out = go (lawful ws) (ltb (length out) (length message))
+  where
+    message : List ℕ
+    message = bytesOf (send (bookOf ws))
+
+    go : (c s : Bool)
+        → cond c (cond s (refuse 12 out) (record { answer = Wrote (length message); bytes = message ++ drop (length message) out })) (refuse 11 out)
+        ≡ sentBy message out (firstOf ((not c, refusal 11) ∷ (s, refusal 12) ∷ []))
+    go true true = refl
+    go true false = refl
+    go false s = refl
 
 -- a question changes no word
 pub question-keeps : (ws bytes : List ℕ) → questionOn ws bytes .words ≡ ws

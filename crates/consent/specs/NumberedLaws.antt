@@ -1,11 +1,11 @@
--- Laws: an opening as a number says what the opening says. Assumes nothing.
+-- Laws: an opening as a number says what the opening says, and its promise has one outcome. Assumes nothing.
 use Prim.Native.Nat.{ℕ}
 use native.Mathlib.Omega.{arith}
 use mathlib.Core.Path.{_≡_, refl, sym, ap, subst, _∙_}
 use mathlib.Core.Bool.{Bool, true, false, not, cond}
 use mathlib.Core.List.{List}
 use mathlib.Core.Option.{Option, none, some}
-use borrow.Author.Tests.{not-true}
+use borrow.Author.Tests.{eqb-true, not-true}
 use lib.Dec.{T, eqb}
 use lib.ListN.{length}
 use Rattle.lists.specs.Facts.{is-true}
@@ -15,11 +15,11 @@ use Rattle.meaning.specs.Book.{fresh}
 use Rattle.meaning.specs.Reply.{Reply, taken, already, verdict, wait, refusal, gossiped}
 use Rattle.meaning.specs.Step.{openStops}
 use Rattle.layout.specs.Words.{bookLong, wordsOf}
-use Rattle.answers.specs.Lent.{openOr, openOn}
+use Rattle.answers.specs.Lent.{Opened, openOr, openOn}
 use Rattle.opening.specs.Opening.{Opens}
 use Rattle.opening.specs.declared.Opening as code
 use Rattle.opening.specs.declared.Opening.the-variants as says
-use Rattle.consent.specs.Numbered.{OpensAs}
+use Rattle.consent.specs.Numbered.{refusedAs, OpensAs}
 
 -- a refusal with a number of its own
 abbrev numbered : Reply → Bool
@@ -50,3 +50,24 @@ module _ (ws : List ℕ) (i n : ℕ) where
       let q = subst (λ (x : code.Opening). Opens (openOn ws i n) x words) e p in
       let z : eqb k 0 ≡ false = not-true (eqb k 0) (is-true (not (eqb k 0)) (open-numbered (refusal k) (sym (q .answers)))) in
       record { answers = ap (λ (c : Bool). cond {A = Option Reply} c none (some (refusal k))) z ∙ q .answers; leaves = q .leaves }
+
+-- an opening's number is settled by what it says
+abbrev numberIn : Option Reply → ℕ
+numberIn none = 0
+numberIn (some (taken s)) = 0
+numberIn (some (already s)) = 0
+numberIn (some (verdict v h a d s)) = 0
+numberIn (some (wait bits)) = 0
+numberIn (some (refusal k)) = k
+numberIn (some (gossiped new applied)) = 0
+
+number-back : (k : ℕ) → numberIn (refusedAs k) ≡ k
+number-back k = go (eqb k 0) refl
+  where
+    go : (c : Bool) → eqb k 0 ≡ c → numberIn (cond c none (some (refusal k))) ≡ k
+    go true e = sym (eqb-true k 0 e)
+    go false e = refl
+
+-- two outcomes of an opening that both meet its promise are equal
+pub one-number : (o : Opened) (k k′ : ℕ) (w w′ : List ℕ) → OpensAs o k w → OpensAs o k′ w′ → (k ≡ k′) × (w ≡ w′)
+one-number o k k′ w w′ p q = (sym (number-back k) ∙ ap numberIn (p .answers ∙ sym (q .answers)) ∙ number-back k′, p .leaves ∙ sym (q .leaves))

@@ -1,4 +1,4 @@
--- Laws: when a question is answered, what Permission's yes means, and that two outcomes that meet one promise are equal. Assumes nothing.
+-- Laws: when a question is answered, what Permission's yes means, and that a reply is settled by its number and values. Assumes nothing.
 use Prim.Native.Nat.{ℕ, _<_}
 use native.Mathlib.Omega.{arith}
 use mathlib.Core.Path.{_≡_, refl, subst, sym, ap, _∙_}
@@ -163,12 +163,3 @@ read-figures (gossiped new applied) = refl
 
 pub figures-one : (x y : Reply) → figures x ≡ figures y → x ≡ y
 figures-one x y e = sym (read-figures x) ∙ ap reading e ∙ read-figures y
-
--- An operation promises one outcome. An answer and a book meet it when the number and the values are those promised, and so is the book.
-pub record Meets (promised : Outcome) (answer : Reply) (left : Book) : Type 0 where
-  pub answers : figures answer ≡ figures (promised .reply)
-  pub leaves : left ≡ promised .book
-
--- two outcomes that both satisfy a promise are equal
-pub one-outcome : (promised : Outcome) (x y : Reply) (b c : Book) → Meets promised x b → Meets promised y c → (x ≡ y) × (b ≡ c)
-one-outcome promised x y b c m n = (figures-one x y (m .answers ∙ sym (n .answers)), m .leaves ∙ sym (n .leaves))

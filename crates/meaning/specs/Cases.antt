@@ -94,8 +94,8 @@ ordered =
     -- open: 11 before 2; send: 11 before 12
     (stopped (openStops false 3 3), 9 ∷ 11 ∷ [])
     ∷ (stopped (openStops true 3 3), 9 ∷ 2 ∷ [])
-    ∷ (stopped (sendStops (fresh 3 3) 37 36), 9 ∷ 11 ∷ [])
-    ∷ (stopped (sendStops (fresh 2 3) 37 36), 9 ∷ 12 ∷ [])
+    ∷ (stopped (sendStops false 37 36), 9 ∷ 11 ∷ [])
+    ∷ (stopped (sendStops true 37 36), 9 ∷ 12 ∷ [])
     -- tap: 11 before 1, 1 before 3, 3 before Already
     ∷ (says (tapStep (fresh 3 3) (tapped 5 1 7 1 0) (at 0 0 0)), 9 ∷ 11 ∷ [])
     ∷ (says (tapStep (B .book) (tapped 5 1 7 1 0) (at 3 0 0)), 9 ∷ 1 ∷ [])

@@ -120,10 +120,10 @@ unfoldable pub send : Book → Message
 send b = record { sender = b .me; screens = b .screens; stamp = known b; records = b .log }
 
 -- `need` is the length of the message, `room` that of the output
-unfoldable pub sendStops : Book → ℕ → ℕ → List (Bool × Reply)
-sendStops b need room =
+unfoldable pub sendStops : Bool → ℕ → ℕ → List (Bool × Reply)
+sendStops isSound need room =
     -- the lent book is unsound
-    (not (sound b), refusal 11)
+    (not isSound, refusal 11)
     -- output shorter than the message
     ∷ (ltb room need, refusal 12)
     ∷ []

@@ -1,20 +1,22 @@
--- Laws: open, line by line of its list of stops. Assumes nothing.
+-- Laws: open, line by line of its list of stops; its promise has one outcome. Assumes nothing.
 use Prim.Native.Nat.{ℕ}
-use mathlib.Core.Path.{_≡_, refl, sym, ap₂, subst, _∙_}
+use mathlib.Core.Path.{_≡_, refl, sym, ap, ap₂, subst, _∙_}
 use mathlib.Core.Bool.{Bool, true, false, not}
 use mathlib.Core.List.{List, [], _∷_}
+use mathlib.Core.Option.{Option, none, some}
 use lib.Dec.{T, eqb}
 use lib.ListN.{length}
 use Rattle.lists.specs.Tests.{firstOf}
 use Rattle.ledger.specs.LimitLaws.{range-most}
 use Rattle.ledger.specs.Message.{inRange}
 use Rattle.meaning.specs.Book.{fresh}
-use Rattle.meaning.specs.Reply.{refusal}
+use Rattle.meaning.specs.Reply.{Reply, taken, already, verdict, wait, refusal, gossiped}
 use Rattle.meaning.specs.Step.{openStops}
 use Rattle.layout.specs.Words.{bookLong, wordsOf}
 use Rattle.answers.specs.Lent.{Opened, openOr, openOn}
 use Rattle.opening.specs.FreshWords.{rest, blank, fresh-words}
-use Rattle.opening.specs.Opening.{Opens}
+use Rattle.opening.specs.Opening.{spokenOpening, Opens}
+use Rattle.opening.specs.declared.Opening as code
 use Rattle.opening.specs.declared.Opening.the-variants as says
 
 module _ (ws : List ℕ) (i n : ℕ) where
@@ -33,3 +35,21 @@ module _ (ws : List ℕ) (i n : ℕ) where
 
     pub opens : inRange i n ≡ true → (new : List ℕ) → new ≡ i ∷ n ∷ 0 ∷ 0 ∷ blank rest → Opens (openOn ws i n) says.Opened new
     opens f new q = subst (λ (o : Opened). Opens o says.Opened new) (sym (by-tests true true e f)) (record { answers = refl; leaves = q ∙ sym (fresh-words i n (range-most i n (subst T (sym f) tt))) })
+
+-- an opening is settled by what it says
+abbrev openingOf : Option Reply → code.Opening
+openingOf none = says.Opened
+openingOf (some (taken s)) = says.Opened
+openingOf (some (already s)) = says.Opened
+openingOf (some (verdict v h a d s)) = says.Opened
+openingOf (some (wait bits)) = says.Opened
+openingOf (some (refusal k)) = says.Refused k
+openingOf (some (gossiped new applied)) = says.Opened
+
+opening-back : (r : code.Opening) → openingOf (spokenOpening r) ≡ r
+opening-back says.Opened = refl
+opening-back (says.Refused k) = refl
+
+-- two outcomes of an opening that both meet its promise are equal
+pub one-opening : (o : Opened) (r r′ : code.Opening) (w w′ : List ℕ) → Opens o r w → Opens o r′ w′ → (r ≡ r′) × (w ≡ w′)
+one-opening o r r′ w w′ p q = (sym (opening-back r) ∙ ap openingOf (p .answers ∙ sym (q .answers)) ∙ opening-back r′, p .leaves ∙ sym (q .leaves))
