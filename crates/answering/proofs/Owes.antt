@@ -30,9 +30,9 @@ use Rattle.opening.specs.OpeningLaws.{wrong-length}
 use Rattle.opening.specs.declared.Opening as opening
 use Rattle.opening.specs.declared.Opening.the-variants as opened
 use Rattle.book.specs.Heard.{owes-unsound, owes-unread}
-use Rattle.speech.specs.Speech.{bytesFor, sayable, sayOn}
+use Rattle.speech.specs.Speech.{bytesFor, sayable, sayOn, refusalLong}
 use Rattle.speech.specs.SpeechLaws.{says-front, reply-long}
-use Rattle.answering.specs.Answer.{Done, doneBy, sendSays, sendDone, badOn, refusalLong, kindIn, answerBy, Answers, openFrom, longIn}
+use Rattle.answering.specs.Answer.{Done, doneBy, sendSays, sendDone, badOn, kindIn, answerBy, Answers, openFrom, longIn}
 use Rattle.answering.specs.AnswerLaws.{short, front, unsound-says}
 
 -- no bytes have kind 0

@@ -15,7 +15,7 @@ use Rattle.meaning.specs.Reply.{refusal}
 use Rattle.meaning.specs.Step.{send}
 use Rattle.layout.specs.Words.{bookLong, bookOf, lawful}
 use Rattle.answers.specs.Lent.{Lent, onBook, tapOn, questionOn, gossipOn, Opened, openOn}
-use Rattle.speech.specs.Speech.{bytesFor, tapLong, questionLong, gossipLong}
+use Rattle.speech.specs.Speech.{bytesFor, tapLong, questionLong, gossipLong, refusalLong}
 
 -- what a message comes to: the bytes of its reply and the words that are left; and the room that it asks for before anything is done
 pub record Done : Type 0 where
@@ -36,9 +36,6 @@ sendDone ws = record { room = length (sendSays ws); says = sendSays ws; words = 
 -- bytes that are no request: 11, then 1
 abbrev pub badOn : List ℕ → Lent
 badOn ws = onBook ws (record { reply = refusal 1; book = bookOf ws })
-
-abbrev pub refusalLong : ℕ
-refusalLong = 2
 
 abbrev pub otherDone : List ℕ → List ℕ → Done
 otherDone ws bytes = cond (readable sendKind bytes) (sendDone ws) (doneBy refusalLong (badOn ws))

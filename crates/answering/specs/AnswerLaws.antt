@@ -25,9 +25,9 @@ use Rattle.meaning.specs.Step.{send}
 use Rattle.layout.specs.SoundWords.{lawful-sound}
 use Rattle.layout.specs.Words.{bookOf, wordsOf, lawful}
 use Rattle.answers.specs.Lent.{Lent, tapOn, questionOn, gossipOn}
-use Rattle.speech.specs.Speech.{bytesFor, sayable, longOf, tapLong, questionLong, gossipLong}
+use Rattle.speech.specs.Speech.{bytesFor, sayable, longOf, tapLong, questionLong, gossipLong, refusalLong}
 use Rattle.speech.specs.SpeechLaws.{reply-long, tap-says, tap-long, question-says, question-long, gossip-says, gossip-long}
-use Rattle.answering.specs.Answer.{Done, doneBy, sendDone, badOn, refusalLong, otherDone, kindIn, doneOn, Answered, answerBy, answerOn, Answers, roomFor}
+use Rattle.answering.specs.Answer.{Done, doneBy, sendDone, badOn, otherDone, kindIn, doneOn, Answered, answerBy, answerOn, Answers, roomFor}
 
 pub short : (d : Done) (ws out : List ℕ) → length out < d .room → Answers (answerBy d ws out) 0 ws out
 unfolding answerBy

@@ -13,13 +13,18 @@ use requests::read_send;
 use soundness::sound;
 use speech::speak;
 use wire::BAD;
+use wire::GOSSIP_TAKEN_BODY;
 use wire::HEAD;
+use wire::KIND_SIZE;
 use wire::LONGEST;
 use wire::QUESTION;
+use wire::REFUSAL_BODY;
 use wire::SEND;
 use wire::SHORT;
 use wire::Said;
+use wire::TAKEN_BODY;
 use wire::TAP;
+use wire::VERDICT_BODY;
 use wire::Written;
 ghost use mathlib.Core.Path.{_≡_};
 ghost use mathlib.Core.List.{_++_};
@@ -29,17 +34,17 @@ ghost use lib.ListN.{length, drop};
 ghost use Rattle.answers.specs.Lent.{tapOn, questionOn, gossipOn};
 ghost use Rattle.answers.specs.Spoken.{spoken};
 ghost use Rattle.opening.specs.Opening.{Opens};
-ghost use Rattle.speech.specs.Speech.{bytesFor, sayable, tapLong, questionLong, gossipLong};
-ghost use Rattle.answering.specs.Answer.{doneBy, sendDone, badOn, refusalLong, otherDone, kindIn, answerBy, answerOn, Answers, roomFor, openFrom, longIn};
+ghost use Rattle.speech.specs.Speech.{bytesFor, sayable, tapLong, questionLong, gossipLong, refusalLong};
+ghost use Rattle.answering.specs.Answer.{doneBy, sendDone, badOn, otherDone, kindIn, answerBy, answerOn, Answers, roomFor, openFrom, longIn};
 
 // The longest replies to gossip, a tap and a question, and to bytes that are no request.
-const GOSSIP_ROOM: usize = 5;
+const GOSSIP_ROOM: usize = KIND_SIZE + GOSSIP_TAKEN_BODY;
 
-const TAP_ROOM: usize = 33;
+const TAP_ROOM: usize = KIND_SIZE + TAKEN_BODY;
 
-const QUESTION_ROOM: usize = 44;
+const QUESTION_ROOM: usize = KIND_SIZE + VERDICT_BODY;
 
-const REFUSAL_ROOM: usize = 2;
+const REFUSAL_ROOM: usize = KIND_SIZE + REFUSAL_BODY;
 
 // The byte of kind, 0 where there is none.
 fn kind_of(msg: &[u8]) -> u8

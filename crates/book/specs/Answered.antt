@@ -1,4 +1,4 @@
--- A law on the question's promise: a well-formed question to a sound book is answered exactly when the book's value stamp covers
+-- Laws on the question's promise: a well-formed question to a sound book is answered exactly when the book's value stamp covers
 -- its label. Assumes nothing.
 use Prim.Native.Nat.{ℕ}
 use mathlib.Core.Path.{_≡_, sym, ap, subst, _∙_}

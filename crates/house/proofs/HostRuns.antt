@@ -21,8 +21,8 @@ use Rattle.layout.specs.Words.{bookOf, wordsOf, lawful}
 use Rattle.layout.specs.SoundWords.{lawful-held}
 use Rattle.answers.specs.Lent.{Lent, tapOn, questionOn, gossipOn, putFront, sendOn}
 use Rattle.speech.specs.KindLaws.{first-taken, first-no-head, first-head, question-not-taken, gossip-not-taken}
-use Rattle.speech.specs.Speech.{bytesFor, tapLong, questionLong, gossipLong}
-use Rattle.answering.specs.Answer.{Done, doneBy, sendDone, badOn, refusalLong, kindIn, doneOn, Answered, answerBy}
+use Rattle.speech.specs.Speech.{bytesFor, tapLong, questionLong, gossipLong, refusalLong}
+use Rattle.answering.specs.Answer.{Done, doneBy, sendDone, badOn, kindIn, doneOn, Answered, answerBy}
 use Rattle.answering.specs.AnswerLaws.{within}
 use Rattle.house.specs.House.{put, grown}
 use Rattle.house.specs.HostHouse as host

@@ -1,4 +1,4 @@
--- A law: new records merged into the log's words are put into the log of the book that the words hold. Assumes nothing.
+-- Laws: new records merged into the log's words are put into the log of the book that the words hold. Assumes nothing.
 use Prim.Native.Nat.{ℕ, _+_, _≤_}
 use native.Mathlib.Omega.{arith}
 use mathlib.Core.Path.{_≡_, sym, ap, ap₂, _∙_}

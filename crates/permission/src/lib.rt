@@ -1,12 +1,10 @@
 // Permission, the rule that the car's functions use. It stands above the book and sees only what the book promises.
 use answers::Reply;
 use book::question;
+use tally::ACCEPTED;
 ghost use mathlib.Core.Path.{_≡_};
 ghost use Rattle.answers.specs.Lent.{questionOn};
 ghost use Rattle.meaning.specs.Reply.{permits};
-
-// Accepts only.
-const ACCEPTED: u64 = 1;
 
 // Yes exactly when the question is answered and the verdict is Accepted.
 pub fn permission(b: &[u64], msg: &[u8]) -> bool

@@ -2,6 +2,8 @@
 use fields::read_fields;
 use stamp::Parts;
 use stamp::parts_at;
+use tally::CONTESTED;
+use tally::UNASKED;
 use wire::ALREADY;
 use wire::BAD;
 use wire::GOSSIP_TAKEN;
@@ -70,11 +72,6 @@ const THIRD: usize = 3;
 const FOURTH: usize = 4;
 
 const FIFTH: usize = 5;
-
-// Verdicts from Unasked to Contested.
-const UNASKED: u64 = 0;
-
-const CONTESTED: u64 = 3;
 
 // The refusals of document 01's table: ten is not used.
 const FIRST_REFUSAL: u64 = 1;

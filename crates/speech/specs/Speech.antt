@@ -26,20 +26,7 @@ sayable r = writable (kindOf r) (figures r)
 unfoldable pub bytesFor : Reply → List ℕ
 bytesFor r = written (kindOf r) (figures r)
 
--- how long they are: one byte of kind, and the body
-abbrev pub longOf : Reply → ℕ
-longOf (taken s) = 33
-longOf (already s) = 33
-longOf (verdict v h a d s) = 44
-longOf (wait bits) = 2
-longOf (refusal k) = 2
-longOf (gossiped new applied) = 5
-
--- at the front of an output: 1 where it is not sayable, then 12 where the output is shorter
-unfoldable pub sayOn : Reply → List ℕ → Output
-sayOn r out = writeAs (kindOf r) (figures r) out
-
--- the longest replies to a tap (taken, already), a question (verdict) and a gossip (gossip taken)
+-- the longest replies to a tap (taken, already), a question (verdict) and a gossip (gossip taken); a refusal, and as long a wait
 abbrev pub tapLong : ℕ
 tapLong = 33
 
@@ -48,6 +35,22 @@ questionLong = 44
 
 abbrev pub gossipLong : ℕ
 gossipLong = 5
+
+abbrev pub refusalLong : ℕ
+refusalLong = 2
+
+-- how long they are: one byte of kind, and the body
+abbrev pub longOf : Reply → ℕ
+longOf (taken s) = tapLong
+longOf (already s) = tapLong
+longOf (verdict v h a d s) = questionLong
+longOf (wait bits) = refusalLong
+longOf (refusal k) = refusalLong
+longOf (gossiped new applied) = gossipLong
+
+-- at the front of an output: 1 where it is not sayable, then 12 where the output is shorter
+unfoldable pub sayOn : Reply → List ℕ → Output
+sayOn r out = writeAs (kindOf r) (figures r) out
 
 -- the message of the wire that says an answer
 abbrev pub saidOf : answer.Reply → Said

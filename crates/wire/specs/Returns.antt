@@ -1,4 +1,4 @@
--- What a reader's and a writer's tests have settled where it returns, for every kind. Assumes nothing.
+-- Laws: what a reader's and a writer's tests have settled where it returns, for every kind. Assumes nothing.
 use Prim.Native.Nat.{ℕ, suc, _+_, _^_}
 use mathlib.Core.Path.{_≡_, refl, sym, ap, _∙_}
 use mathlib.Core.Bool.{Bool, true, false, not, _&&_, and-true, and-false}

@@ -1,7 +1,8 @@
 -- `answering::answer_bad` meets its contract. Assumes nothing.
 use mathlib.Core.Path.{sym, _∙_}
 use borrow.Author.Tests.{not-true, not-false}
-use Rattle.answering.specs.Answer.{doneBy, badOn, refusalLong}
+use Rattle.speech.specs.Speech.{refusalLong}
+use Rattle.answering.specs.Answer.{doneBy, badOn}
 use Rattle.answering.specs.AnswerLaws.{short, bad-says, bad-long}
 use Rattle.answering.proofs.Owes.{ready, owes, bad-unsound, bad-unread}
 use borrow.Author.Needs.{needs}

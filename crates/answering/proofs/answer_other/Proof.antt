@@ -10,7 +10,8 @@ use Rattle.wire.specs.Said.{figures}
 use Rattle.wire.specs.declared.Said.{Said}
 use Rattle.gossip.specs.Tags.{not-this}
 use Rattle.wire.specs.Kinds.{sendKind}
-use Rattle.answering.specs.Answer.{doneBy, sendDone, badOn, refusalLong}
+use Rattle.speech.specs.Speech.{refusalLong}
+use Rattle.answering.specs.Answer.{doneBy, sendDone, badOn}
 use Rattle.answering.proofs.Owes.{same-done}
 use borrow.Author.Needs.{needs}
 use Rattle.answering.proofs.answer_other.Statement.{statement}
