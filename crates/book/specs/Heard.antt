@@ -4,12 +4,14 @@
 --     owes-step      what the step on the book that the slice holds gives
 use Prim.Native.Nat.{ℕ, _<_}
 use native.Mathlib.Omega.{arith}
-use mathlib.Core.Path.{_≡_, refl, sym, ap, subst, _∙_}
+use mathlib.Core.Path.{_≡_, refl, sym, ap, ap₂, subst, _∙_}
 use mathlib.Core.Bool.{Bool, true, false, _&&_, cond}
 use mathlib.Core.List.{List, _∷_}
+use mathlib.Core.Option.{Option, none, some, Option·some-ne-none}
 use lib.Dec.{T, ltb, ltb→lt}
 use lib.ListN.{getD}
 use Rattle.lists.specs.Facts.{and-l, and-r, is-true}
+use Rattle.lists.specs.Tests.{firstOf}
 use Rattle.stamp.specs.Parts.{partsAt, listOf}
 use Rattle.stamp.specs.Stamp.{stampFits}
 use Rattle.stamp.specs.declared.Parts.{Parts}
@@ -25,25 +27,44 @@ use Rattle.wire.specs.declared.Written.{Written}
 use Rattle.wire.specs.declared.Written.the-variants.{Refused}
 use Rattle.gossip.specs.Message.{headLine, wellFormed, messageOf, readGossip, bytesOf}
 use Rattle.gossip.specs.Told.{gossip-told, head-in}
+use Rattle.taking.specs.Stop.{StopsTap}
+use Rattle.taking.specs.declared.TapStop.{TapStop}
+use Rattle.taking.specs.declared.TapStop.the-variants as tapped
 use Rattle.gossiping.specs.Heard.{Heard}
+use Rattle.gossiping.specs.Stop.{StopsGossip}
+use Rattle.gossiping.specs.declared.GossipStop.{GossipStop}
+use Rattle.gossiping.specs.declared.GossipStop.the-variants as gossiped
 use Rattle.meaning.specs.AnswerLaws.{ask-keeps}
-use Rattle.meaning.specs.Reply.{refusal}
-use Rattle.meaning.specs.Step.{Outcome, tapStep, ask, send, gossipStep}
+use Rattle.meaning.specs.Reply.{Reply, refusal}
+use Rattle.meaning.specs.Step.{Outcome, tapStops, tapStep, ask, send, gossipStops, gossipStep}
 use Rattle.layout.specs.SoundWords.{lawful-held}
 use Rattle.layout.specs.Words.{bookOf, wordsOf, lawful}
-use Rattle.answers.specs.Lent.{Lent, Promise, onBook, heard, tapOn, questionOn, gossipOn, putFront, sendOn}
+use Rattle.answers.specs.Lent.{Lent, Promise, onBook, heard, stopOn, tapOn, tapStop, questionOn, gossipOn, gossipStop, putFront, sendOn}
 use Rattle.answers.specs.LentLaws.{lentOf}
 use Rattle.answers.specs.Spoken.{spoken}
 use Rattle.answers.specs.declared.Reply as answer
 use Rattle.answers.specs.declared.Reply.the-variants as says
+use Rattle.book.specs.Stop.{TapStopOn, GossipStopOn}
 
 module _ (ws : List ℕ) where
   pub owes-unsound : lawful ws ≡ false → (o : Outcome) → Promise (onBook ws o) (says.Refused 11) ws
   owes-unsound e o = subst (λ (l : Lent). Promise l (says.Refused 11) ws) (ap (λ (c : Bool). cond c (lentOf o) (record { reply = refusal 11; words = ws })) (sym e)) (record { answers = refl; leaves = refl })
 
+  pub stop-unsound : lawful ws ≡ false → (c : Bool) (stop : Option Reply) → stopOn ws c stop ≡ some (refusal 11)
+  stop-unsound e c stop = ap (λ (d : Bool). cond d (cond c stop (some (refusal 1))) (some (refusal 11))) e
+
   module _ (e : lawful ws ≡ true) where
     on-sound : (o : Outcome) → onBook ws o ≡ lentOf o
     on-sound o = ap (λ (c : Bool). cond c (lentOf o) (record { reply = refusal 11; words = ws })) e
+
+    stop-sound : (c : Bool) (stop : Option Reply) → stopOn ws c stop ≡ cond c stop (some (refusal 1))
+    stop-sound c stop = ap (λ (d : Bool). cond d (cond c stop (some (refusal 1))) (some (refusal 11))) e
+
+    pub stop-unread : (c : Bool) → c ≡ false → (stop : Option Reply) → stopOn ws c stop ≡ some (refusal 1)
+    stop-unread c f stop = stop-sound c stop ∙ ap (λ (d : Bool). cond d stop (some (refusal 1))) f
+
+    pub stop-read : (c : Bool) → T c → (stop : Option Reply) → stopOn ws c stop ≡ stop
+    stop-read c t stop = stop-sound c stop ∙ ap (λ (d : Bool). cond d stop (some (refusal 1))) (is-true c t)
 
     pub owes-unread : (c : Bool) → c ≡ false → (o : Outcome) → Promise (onBook ws (heard c (bookOf ws) o)) (says.Refused 1) ws
     owes-unread c f o =
@@ -54,6 +75,19 @@ module _ (ws : List ℕ) where
     owes-step c f o r w p =
         let q : onBook ws (heard c (bookOf ws) o) ≡ lentOf o = on-sound (heard c (bookOf ws) o) ∙ ap (λ (d : Bool). lentOf (heard d (bookOf ws) o)) f in
         subst (λ (l : Lent). Promise l r w) (sym q) p
+
+  -- nothing stops a request: the book is sound, the bytes are read, and nothing stops the step
+  pub all-clear : (c : Bool) (stop : Option Reply) → stopOn ws c stop ≡ none → (lawful ws ≡ true) × (c ≡ true) × (stop ≡ none)
+  all-clear c stop e = go (lawful ws) c stop e
+    where
+      go : (l c : Bool) (stop : Option Reply) → cond l (cond c stop (some (refusal 1))) (some (refusal 11)) ≡ none → (l ≡ true) × (c ≡ true) × (stop ≡ none)
+      go false c stop e = absurd (Option·some-ne-none (refusal 11) e)
+      go true false stop e = absurd (Option·some-ne-none (refusal 1) e)
+      go true true stop e = (refl, refl, e)
+
+-- a stop is the reply, and no word changes
+pub owes-stop : (o : Lent) (r : answer.Reply) (ws : List ℕ) → o ≡ record { reply = spoken r; words = ws } → Promise o r ws
+owes-stop o r ws e = record { answers = sym (ap (λ (l : Lent). l .reply) e); leaves = sym (ap (λ (l : Lent). l .words) e) }
 
 -- a tap's bytes that are read
 module _ (ws bytes : List ℕ) (t : Tap) (l : Parts) (e : lawful ws ≡ true) (read : said.Tap t l ≡ readAs (tapKind (bookOf ws .screens)) bytes) where
@@ -73,12 +107,46 @@ module _ (ws bytes : List ℕ) (t : Tap) (l : Parts) (e : lawful ws ≡ true) (r
         subst (λ (x : Parts). T (stampFits (bookOf ws .screens) (listOf x))) (sym (tap-is .1)) (and-r (tapFits (tapAt 1 line)) (stampFits (bookOf ws .screens) (stampAt 6 line)) kept),
       )
 
+  -- what stops the tap on the book stops it on the words
+  pub tap-stopped-on : (r : TapStop) → StopsTap (bookOf ws) t l r → TapStopOn ws bytes r
+  unfolding tapStop
+  tap-stopped-on r q = go r q
+    where
+      line : List ℕ
+      line = lineOf (tapKind (bookOf ws .screens)) bytes
+
+      stops : tapStop ws bytes ≡ firstOf (tapStops (bookOf ws) t (listOf l))
+      stops =
+          stop-read ws e (readable (tapKind (bookOf ws .screens)) bytes) (tap-told .0) (firstOf (tapStops (bookOf ws) (tapAt 1 line) (stampAt 6 line)))
+          ∙ ap₂ (λ (x : Tap) (y : Parts). firstOf (tapStops (bookOf ws) x (listOf y))) (sym (tap-is .0)) (sym (tap-is .1))
+
+      go : (r : TapStop) → StopsTap (bookOf ws) t l r → TapStopOn ws bytes r
+      go (tapped.Stopped x) q = stops ∙ q
+      go (tapped.Clear u m) q = (stops ∙ q .0, q .1 ∙ tap-is .0, q .2 ∙ tap-is .1)
+
+-- a tap that nothing stops
+module _ (ws bytes : List ℕ) (t : Tap) (l : Parts) (c : TapStopOn ws bytes (tapped.Clear t l)) where
+  abbrev tap-line : List ℕ
+  tap-line = lineOf (tapKind (bookOf ws .screens)) bytes
+
+  tap-clears :
+      (lawful ws ≡ true) × (readable (tapKind (bookOf ws .screens)) bytes ≡ true)
+      × (firstOf (tapStops (bookOf ws) (tapAt 1 tap-line) (stampAt 6 tap-line)) ≡ none)
+  unfolding tapStop
+  tap-clears = all-clear ws (readable (tapKind (bookOf ws .screens)) bytes) (firstOf (tapStops (bookOf ws) (tapAt 1 tap-line) (stampAt 6 tap-line))) (c .0)
+
+  pub tap-may : T (lawful ws) × (firstOf (tapStops (bookOf ws) t (listOf l)) ≡ none)
+  tap-may = (
+    subst T (sym (tap-clears .0)) tt,
+    ap₂ (λ (x : Tap) (y : Parts). firstOf (tapStops (bookOf ws) x (listOf y))) (c .1) (c .2) ∙ tap-clears .2,
+  )
+
   pub tap-owes : (r : answer.Reply) (w : List ℕ) → Promise (lentOf (tapStep (bookOf ws) t (listOf l))) r w → Promise (tapOn ws bytes) r w
   unfolding tapOn
   tap-owes r w p =
-      let line = lineOf (tapKind (bookOf ws .screens)) bytes in
-      owes-step ws e (readable (tapKind (bookOf ws .screens)) bytes) (is-true (readable (tapKind (bookOf ws .screens)) bytes) (tap-told .0)) (tapStep (bookOf ws) (tapAt 1 line) (stampAt 6 line)) r w
-      (subst (λ (x : Tap). Promise (lentOf (tapStep (bookOf ws) x (stampAt 6 line))) r w) (tap-is .0) (subst (λ (x : Parts). Promise (lentOf (tapStep (bookOf ws) t (listOf x))) r w) (tap-is .1) p))
+      owes-step ws (tap-clears .0) (readable (tapKind (bookOf ws .screens)) bytes) (tap-clears .1) (tapStep (bookOf ws) (tapAt 1 tap-line) (stampAt 6 tap-line)) r w
+      (subst (λ (x : Tap). Promise (lentOf (tapStep (bookOf ws) x (stampAt 6 tap-line))) r w) (c .1)
+      (subst (λ (x : Parts). Promise (lentOf (tapStep (bookOf ws) t (listOf x))) r w) (c .2) p))
 
 -- a question's bytes that are read
 module _ (ws bytes : List ℕ) (p : ℕ) (l : Parts) (e : lawful ws ≡ true) (read : said.Question p l ≡ readAs (questionKind (bookOf ws .screens)) bytes) where
@@ -130,6 +198,27 @@ module _ (ws bytes : List ℕ) (sender screens count : ℕ) (m : Parts) (e : law
         number = ap (λ (l : List ℕ). getD l 3 0) h;
       }
 
+  -- what stops the gossip on the book stops it on the words
+  pub gossip-stopped-on : (r : GossipStop) → StopsGossip (bookOf ws) (messageOf bytes) sender screens count m r → GossipStopOn ws bytes r
+  unfolding gossipStop
+  gossip-stopped-on r q = go r q
+    where
+      stops : gossipStop ws bytes ≡ firstOf (gossipStops (bookOf ws) (messageOf bytes))
+      stops = stop-read ws e (wellFormed bytes) (gossip-line .0) (firstOf (gossipStops (bookOf ws) (messageOf bytes)))
+
+      go : (r : GossipStop) → StopsGossip (bookOf ws) (messageOf bytes) sender screens count m r → GossipStopOn ws bytes r
+      go (gossiped.Stopped x) q = stops ∙ q
+      go (gossiped.Clear j n c p new) q = (stops ∙ q .0, rw (q .1, q .2, q .3, q .4) gossip-heard, q .5)
+
+-- a gossip that nothing stops
+module _ (ws bytes : List ℕ) (c : gossipStop ws bytes ≡ none) where
+  gossip-clears : (lawful ws ≡ true) × (wellFormed bytes ≡ true) × (firstOf (gossipStops (bookOf ws) (messageOf bytes)) ≡ none)
+  unfolding gossipStop
+  gossip-clears = all-clear ws (wellFormed bytes) (firstOf (gossipStops (bookOf ws) (messageOf bytes))) c
+
+  pub gossip-may : T (lawful ws) × (firstOf (gossipStops (bookOf ws) (messageOf bytes)) ≡ none)
+  gossip-may = (subst T (sym (gossip-clears .0)) tt, gossip-clears .2)
+
   pub gossip-owes : (r : answer.Reply) (w : List ℕ) → Promise (lentOf (gossipStep (bookOf ws) (messageOf bytes))) r w → Promise (gossipOn ws bytes) r w
   unfolding gossipOn
-  gossip-owes r w p = owes-step ws e (wellFormed bytes) (is-true (wellFormed bytes) (gossip-line .0)) (gossipStep (bookOf ws) (messageOf bytes)) r w p
+  gossip-owes r w p = owes-step ws (gossip-clears .0) (wellFormed bytes) (gossip-clears .1) (gossipStep (bookOf ws) (messageOf bytes)) r w p

@@ -3,6 +3,8 @@ use answers::Reply;
 use answers::UNSOUND;
 use asking::ask_book;
 use gossip::read_gossip;
+use gossiping::GossipStop;
+use gossiping::stop_gossip;
 use gossiping::take_gossip;
 use layout::SCREENS;
 use opening::Opening;
@@ -11,6 +13,8 @@ use requests::read_question;
 use requests::read_tap;
 use sending::send_book;
 use soundness::sound;
+use taking::TapStop;
+use taking::stop_tap;
 use taking::take_tap;
 use wire::BAD;
 use wire::Said;
@@ -18,6 +22,7 @@ use wire::Written;
 ghost use Rattle.answers.specs.Lent.{Promise, tapOn, questionOn, gossipOn, sendOn, openOn};
 ghost use Rattle.opening.specs.Opening.{Opens};
 ghost use Rattle.wire.specs.Write.{Meets};
+ghost use Rattle.book.specs.Stop.{TapStopOn, GossipStopOn};
 
 // The fresh book of screen i of n, or the refusal's number.
 pub fn open(b: &mut [u64], i: u64, n: u64) -> Opening
@@ -26,18 +31,29 @@ pub fn open(b: &mut [u64], i: u64, n: u64) -> Opening
     open_book(b, i, n)
 }
 
-pub fn tap(b: &mut [u64], msg: &[u8]) -> Reply
-    ensures { λ r. ⌜ Promise (tapOn (now (b .entry)) (now (msg .entry))) r (now (b .exit)) ⌝ }
+// What stops a tap, judged before any word changes; or the tap and the label that its bytes hold.
+pub fn tap_stop(b: &[u64], msg: &[u8]) -> TapStop
+    ensures { λ r. ⌜ TapStopOn (now (b .entry)) (now (msg .entry)) r ⌝ }
 {
     if !sound(b) {
-        return Reply::Refused(UNSOUND);
+        return TapStop::Stopped(Reply::Refused(UNSOUND));
     }
     let n = b[SCREENS] as usize;
     let said = read_tap(msg, n);
     let Said::Tap { tap, label } = said else {
-        return Reply::Refused(BAD);
+        return TapStop::Stopped(Reply::Refused(BAD));
     };
-    take_tap(b, tap, label)
+    stop_tap(b, tap, label)
+}
+
+pub fn tap(b: &mut [u64], msg: &[u8]) -> Reply
+    ensures { λ r. ⌜ Promise (tapOn (now (b .entry)) (now (msg .entry))) r (now (b .exit)) ⌝ }
+{
+    let stop = tap_stop(b, msg);
+    match stop {
+        TapStop::Stopped(reply) => reply,
+        TapStop::Clear { tap, label } => take_tap(b, tap, label),
+    }
 }
 
 // The book does not change: it is lent to be read only.
@@ -65,11 +81,12 @@ pub fn send(b: &[u64], out: &mut [u8]) -> Written
     send_book(b, out)
 }
 
-pub fn gossip(b: &mut [u64], msg: &[u8]) -> Reply
-    ensures { λ r. ⌜ Promise (gossipOn (now (b .entry)) (now (msg .entry))) r (now (b .exit)) ⌝ }
+// What stops a gossip, judged before any word changes; or its head and how many of its records are new.
+pub fn gossip_stop(b: &[u64], msg: &[u8]) -> GossipStop
+    ensures { λ r. ⌜ GossipStopOn (now (b .entry)) (now (msg .entry)) r ⌝ }
 {
     if !sound(b) {
-        return Reply::Refused(UNSOUND);
+        return GossipStop::Stopped(Reply::Refused(UNSOUND));
     }
     let said = read_gossip(msg);
     let Said::Head {
@@ -79,7 +96,23 @@ pub fn gossip(b: &mut [u64], msg: &[u8]) -> Reply
         stamp,
     } = said
     else {
-        return Reply::Refused(BAD);
+        return GossipStop::Stopped(Reply::Refused(BAD));
     };
-    take_gossip(b, msg, sender, screens, count, stamp)
+    stop_gossip(b, msg, sender, screens, count, stamp)
+}
+
+pub fn gossip(b: &mut [u64], msg: &[u8]) -> Reply
+    ensures { λ r. ⌜ Promise (gossipOn (now (b .entry)) (now (msg .entry))) r (now (b .exit)) ⌝ }
+{
+    let stop = gossip_stop(b, msg);
+    match stop {
+        GossipStop::Stopped(reply) => reply,
+        GossipStop::Clear {
+            sender,
+            screens,
+            count,
+            stamp,
+            new,
+        } => take_gossip(b, msg, sender, screens, count, stamp, new),
+    }
 }

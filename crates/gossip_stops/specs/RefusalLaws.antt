@@ -1,6 +1,6 @@
 -- Laws: the refusals' number is what the stops of a gossip come to. Assumes nothing.
---     stamp-stops, records-stop   a number other than zero: the refusal of that number, and the book stays
---     unstopped                   zero: the gossip is done
+--     stamp-stops, records-stop   a number other than zero: the first stop is the refusal of that number
+--     unstopped                   zero: nothing stops it
 --     same-house                  past the refusals by the stamp the message is of this house, and from another screen
 use Prim.Native.Nat.{ℕ, zero, suc, _+_}
 use native.Mathlib.Omega.{arith}
@@ -12,7 +12,7 @@ use mathlib.Core.Option.{Option, none, some}
 use borrow.Author.Tests.{eqb-true, eqb-false}
 use lib.Dec.{T, eqb, ltb}
 use lib.ListN.{length}
-use Rattle.lists.specs.Facts.{is-true, either, clash, every-at, firstOf-none}
+use Rattle.lists.specs.Facts.{is-true}
 use Rattle.lists.specs.Tests.{firstOf}
 use Rattle.stamp.specs.Stamp.{Stamp, part, total, merge, atMost}
 use Rattle.tally.specs.Tap.{bodyFits}
@@ -21,8 +21,7 @@ use Rattle.ledger.specs.Log.{gapless}
 use Rattle.ledger.specs.Message.{Message, messageFits}
 use Rattle.meaning.specs.Book.{Book, row, known, sound}
 use Rattle.meaning.specs.Reply.{Reply, refusal}
-use Rattle.meaning.specs.Step.{stopOr, newOnes, gossipStops, gossipStep}
-use Rattle.meaning.specs.StepLaws.{GossipDone, gossip-out, gossip-cases}
+use Rattle.meaning.specs.Step.{newOnes, gossipStops}
 use Rattle.gossip_stops.specs.Refusals.{unless, rowRefusal, ownRefusal, stampRefusal, recordRefusal}
 
 -- the refusal of a number, if there is one
@@ -56,23 +55,19 @@ module _ (b : Book) (m : Message) (s : T (sound b)) (f : T (messageFits bodyFits
       (ltb (part (known b) (b .me)) (part (m .stamp) (b .me))) (ltb bookRoom (total (merge (known b) (m .stamp)))) (gapless (b .screens) (known b) m)
       (ltb logRoom (length (b .log) + length (newOnes b m))))
 
-  refuses : (k : ℕ) → unless first (recordRefusal b m) ≡ suc k → gossipStep b m ≡ record { reply = refusal (suc k); book = b }
-  unfolding gossipStep
-  refuses k e = ap (stopOr b (gossip-out b m)) (stops-number ∙ ap refusalOf e)
-
-  pub stamp-stops : (k : ℕ) → stampRefusal b (m .sender) (m .screens) (m .stamp) ≡ k → k ≢ 0 → gossipStep b m ≡ record { reply = refusal k; book = b }
+  pub stamp-stops : (k : ℕ) → stampRefusal b (m .sender) (m .screens) (m .stamp) ≡ k → k ≢ 0 → firstOf (gossipStops b m) ≡ some (refusal k)
   stamp-stops zero e n = absurd (n refl)
-  stamp-stops (suc k) e n = refuses k (ap (λ (x : ℕ). unless x (recordRefusal b m)) e)
+  stamp-stops (suc k) e n = stops-number ∙ ap (λ (x : ℕ). refusalOf (unless x (recordRefusal b m))) e
 
   module _ (z : stampRefusal b (m .sender) (m .screens) (m .stamp) ≡ 0) where
-    pub records-stop : (k : ℕ) → recordRefusal b m ≡ suc k → gossipStep b m ≡ record { reply = refusal (suc k); book = b }
-    records-stop k e = refuses k (ap (λ (x : ℕ). unless x (recordRefusal b m)) z ∙ e)
+    by-records : (k : ℕ) → recordRefusal b m ≡ k → firstOf (gossipStops b m) ≡ refusalOf k
+    by-records k e = stops-number ∙ ap (λ (x : ℕ). refusalOf (unless x (recordRefusal b m))) z ∙ ap refusalOf e
 
-    pub unstopped : recordRefusal b m ≡ 0 → GossipDone b m × (gossipStep b m ≡ gossip-out b m)
-    unstopped e =
-        either (gossip-cases b m)
-        (λ w. clash (w .1 .0 .0) (w .1 .2) (every-at (λ c. not (c .0)) (gossipStops b m) (firstOf-none (gossipStops b m) (stops-number ∙ ap (λ (x : ℕ). refusalOf (unless x (recordRefusal b m))) z ∙ ap refusalOf e)) (w .1 .1)))
-        (λ w. w)
+    pub records-stop : (k : ℕ) → recordRefusal b m ≡ suc k → firstOf (gossipStops b m) ≡ some (refusal (suc k))
+    records-stop k e = by-records (suc k) e
+
+    pub unstopped : recordRefusal b m ≡ 0 → firstOf (gossipStops b m) ≡ none
+    unstopped e = by-records 0 e
 
 pub same-house : (b : Book) (j n : ℕ) (m : Stamp) → stampRefusal b j n m ≡ 0 → (n ≡ b .screens) × (j ≢ b .me)
 unfolding stampRefusal

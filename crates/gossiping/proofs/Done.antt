@@ -2,7 +2,6 @@
 use Prim.Native.Nat.{ℕ, _+_, _≤_, _<_}
 use native.Mathlib.Omega.{arith}
 use mathlib.Core.Path.{_≡_, refl, sym, ap, ap₂, subst, _∙_}
-use mathlib.Core.Logic.{_≢_}
 use mathlib.Core.List.{List, []}
 use lib.Dec.{T}
 use lib.ListN.{length, getD}
@@ -53,13 +52,13 @@ module _ (ws bytes : List ℕ) (j n count : ℕ) (m : Stamp) (w : T (lawful ws))
   ready : meaning.Ready (bookOf ws) (gossipRows (bookOf ws) (messageOf bytes)) (newOnes (bookOf ws) (messageOf bytes))
   ready = gossip-ready b (messageOf bytes) d
 
-  pub raisable : j ≢ (bookOf ws) .me → Raisable (bookOf ws) j m
+  pub raisable : Raisable (bookOf ws) j m
   unfolding parts
-  raisable other =
+  raisable =
       record {
         row-in = omega (arith, sender-in bytes j n count m h, screens-is bytes j n count m h, d .house);
         me-in = me-in b sound-now;
-        other = other;
+        other = λ e. d .other (sender-is bytes j n count m h ∙ e);
         long = fits n m (stamp-in bytes j n count m h) .long;
         newer = parts-atMost (row b j) m (subst (λ (x : Stamp). Covers x (row b j)) (stamp-is bytes j n count m h) (subst (λ (i : ℕ). Covers (messageOf bytes .stamp) (row b i)) (sender-is bytes j n count m h) (d .newer)));
       }

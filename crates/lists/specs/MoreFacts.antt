@@ -140,3 +140,7 @@ first-passes {A} p cs t r e = go (firstOf-some cs r e)
 pub nor-l : (x y : Bool) → T (not (x || y)) → T (not x)
 nor-l true y n = n
 nor-l false y n = tt
+
+pub nor-r : (x y : Bool) → T (not (x || y)) → T (not y)
+nor-r true y n = absurd n
+nor-r false y n = n

@@ -2,15 +2,15 @@
 use Prim.Native.Nat.{_≤_, _<_, ℕ, suc, _+_, max}
 use native.Mathlib.Omega.{arith}
 use mathlib.Core.Path.{ap, _≡_, refl, _∙_, subst, sym}
-use mathlib.Core.Logic.{_⊎_, inl, inr}
+use mathlib.Core.Logic.{_⊎_, inl, inr, _≢_}
 use mathlib.Core.Bool.{not, _&&_, false, true, Bool}
 use mathlib.Core.List.{_∷_, [], List·Memᴰ·cases-cons}
 use mathlib.Core.Option.{Option, some, none}
-use lib.Dec.{T, nltb→le, nleb→lt, lt→ltb, le→leb, eqb, eqb→eq}
+use lib.Dec.{T, nltb→le, nleb→lt, lt→ltb, le→leb, eqb, eqb→eq, eqb-refl}
 use lib.ListN.{length, set, getD, length-set}
 use lib.Seq.{getD-set-same}
 use Rattle.lists.specs.Facts.{here, not-not, and-l, and-r, every-place, firstOf-none, either, all-from, _also_, done, _∈_, none-in, all-at, tell, clash, not-and, firstOf-some, every-at}
-use Rattle.lists.specs.MoreFacts.{first-passes, set-either, every-set, nor-l}
+use Rattle.lists.specs.MoreFacts.{first-passes, set-either, every-set, nor-l, nor-r}
 use Rattle.lists.specs.Order.{rising}
 use Rattle.lists.specs.Tests.{exists, every, firstOf}
 use Rattle.stamp.specs.Laws.{fits, Fits, Covers, part-either, fits-test, fits-replace, part-total, total-next, part-replaced, atMost-parts, part-merge, fits-merge}
@@ -64,18 +64,27 @@ tap-passed b t l p =
     at : (k : ℕ) → T (not ((getD (tapStops b t l) k (false, refusal 0)) .0))
     at k = every-place (λ c. not (c .0)) (tapStops b t l) (false, refusal 0) p tt k
 
+-- nothing stops a tap: it is done; a stop: its reply, and the book stays
+pub tap-by-none : (b : Book) (t : Tap) (l : Stamp) → firstOf (tapStops b t l) ≡ none → TapDone b t l × (tapStep b t l ≡ tap-out b t l)
+unfolding tapStep
+tap-by-none b t l e = (tap-passed b t l (firstOf-none (tapStops b t l) e), ap (stopOr b (tap-out b t l)) e)
+
+pub tap-by-stop :
+    (b : Book) (t : Tap) (l : Stamp) (r : Reply) → firstOf (tapStops b t l) ≡ some r
+    → T (not (isTaken r)) × (tapStep b t l ≡ record { reply = r; book = b })
+unfolding tapStep tapStops
+tap-by-stop b t l r e = (first-passes (λ x. not (isTaken x)) (tapStops b t l) tt r e, ap (stopOr b (tap-out b t l)) e)
+
 pub tap-cases :
     (b : Book) (t : Tap) (l : Stamp)
     → ((r : Reply) × T (not (isTaken r)) × (tapStep b t l ≡ record { reply = r; book = b })) ⊎ (TapDone b t l × (tapStep b t l ≡ tap-out b t l))
-unfolding tapStep tapStops
 tap-cases b t l = go (firstOf (tapStops b t l)) refl
   where
     go :
         (o : Option Reply) → firstOf (tapStops b t l) ≡ o
-        → ((r : Reply) × T (not (isTaken r)) × (stopOr b (tap-out b t l) (firstOf (tapStops b t l)) ≡ record { reply = r; book = b }))
-        ⊎ (TapDone b t l × (stopOr b (tap-out b t l) (firstOf (tapStops b t l)) ≡ tap-out b t l))
-    go (some r) e = inl (r, first-passes (λ x. not (isTaken x)) (tapStops b t l) tt r e, ap (stopOr b (tap-out b t l)) e)
-    go none e = inr (tap-passed b t l (firstOf-none (tapStops b t l) e), ap (stopOr b (tap-out b t l)) e)
+        → ((r : Reply) × T (not (isTaken r)) × (tapStep b t l ≡ record { reply = r; book = b })) ⊎ (TapDone b t l × (tapStep b t l ≡ tap-out b t l))
+    go (some r) e = let s = tap-by-stop b t l r e in inl (r, s .0, s .1)
+    go none e = inr (tap-by-none b t l e)
 
 -- the record that a tap makes: it says that tap and no other; and the known stamp after it
 pub new-origin : (b : Book) (t : Tap) (l : Stamp) → (newRecord b t l) .origin ≡ b .me
@@ -162,6 +171,7 @@ pub record GossipDone (b : Book) (m : Message) : Type 0 where
   pub sound-before : Sound b
   pub rules : (k : ℕ) → T (getD (messageRules bodyFits m) k true)
   pub house : m .screens ≡ b .screens
+  pub other : m .sender ≢ b .me
   pub newer : Covers (m .stamp) (row b (m .sender))
   pub own : part (m .stamp) (b .me) ≤ part (known b) (b .me)
   pub unspent : total (merge (known b) (m .stamp)) ≤ bookRoom
@@ -182,6 +192,7 @@ gossip-passed b m p =
       sound-before = sound-at b (not-not (sound b) (at 0));
       rules = λ k. all-at (messageRules bodyFits m) k (not-not (messageFits bodyFits m) (at 1));
       house = eqb→eq (m .screens) (b .screens) (not-not (eqb (m .screens) (b .screens)) (nor-l (not (eqb (m .screens) (b .screens))) (eqb (m .sender) (b .me)) (at 2)));
+      other = λ e. clash (eqb (m .sender) (b .me)) (subst (λ (k : ℕ). T (eqb (m .sender) k)) e (eqb-refl (m .sender))) (nor-r (not (eqb (m .screens) (b .screens))) (eqb (m .sender) (b .me)) (at 2));
       newer = atMost-parts (row b (m .sender)) (m .stamp)
           (either (tell (atMost (row b (m .sender)) (m .stamp))) (λ h. h)
           (λ h. clash (not (atMost (m .stamp) (row b (m .sender)))) (at 3) (not-and (not (atMost (row b (m .sender)) (m .stamp))) (not (atMost (m .stamp) (row b (m .sender)))) (at 4) h)));
@@ -194,19 +205,27 @@ gossip-passed b m p =
     at : (k : ℕ) → T (not ((getD (gossipStops b m) k (false, refusal 0)) .0))
     at k = every-place (λ c. not (c .0)) (gossipStops b m) (false, refusal 0) p tt k
 
+-- nothing stops a gossip: it is done; a stop: its reply, and the book stays
+pub gossip-by-none : (b : Book) (m : Message) → firstOf (gossipStops b m) ≡ none → GossipDone b m × (gossipStep b m ≡ gossip-out b m)
+unfolding gossipStep
+gossip-by-none b m e = (gossip-passed b m (firstOf-none (gossipStops b m) e), ap (stopOr b (gossip-out b m)) e)
+
+pub gossip-by-stop : (b : Book) (m : Message) (r : Reply) → firstOf (gossipStops b m) ≡ some r → gossipStep b m ≡ record { reply = r; book = b }
+unfolding gossipStep
+gossip-by-stop b m r e = ap (stopOr b (gossip-out b m)) e
+
 pub gossip-cases :
     (b : Book) (m : Message)
     → ((r : Reply) × ((c : Bool × Reply) × (c ∈ gossipStops b m) × T (c .0) × (c .1 ≡ r)) × (gossipStep b m ≡ record { reply = r; book = b }))
     ⊎ (GossipDone b m × (gossipStep b m ≡ gossip-out b m))
-unfolding gossipStep
 gossip-cases b m = go (firstOf (gossipStops b m)) refl
   where
     go :
         (o : Option Reply) → firstOf (gossipStops b m) ≡ o
-        → ((r : Reply) × ((c : Bool × Reply) × (c ∈ gossipStops b m) × T (c .0) × (c .1 ≡ r)) × (stopOr b (gossip-out b m) (firstOf (gossipStops b m)) ≡ record { reply = r; book = b }))
-        ⊎ (GossipDone b m × (stopOr b (gossip-out b m) (firstOf (gossipStops b m)) ≡ gossip-out b m))
-    go (some r) e = inl (r, firstOf-some (gossipStops b m) r e, ap (stopOr b (gossip-out b m)) e)
-    go none e = inr (gossip-passed b m (firstOf-none (gossipStops b m) e), ap (stopOr b (gossip-out b m)) e)
+        → ((r : Reply) × ((c : Bool × Reply) × (c ∈ gossipStops b m) × T (c .0) × (c .1 ≡ r)) × (gossipStep b m ≡ record { reply = r; book = b }))
+        ⊎ (GossipDone b m × (gossipStep b m ≡ gossip-out b m))
+    go (some r) e = inl (r, firstOf-some (gossipStops b m) r e, gossip-by-stop b m r e)
+    go none e = inr (gossip-by-none b m e)
 
 pub new-ones : (b : Book) (m : Message) (r : Record) → r ∈ newOnes b m → (r ∈ m .records) × (part (known b) (r .origin) < r .number)
 unfolding newOnes

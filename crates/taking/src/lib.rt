@@ -1,4 +1,4 @@
-// A tap on a sound book: refused, known already, or taken. What is refused or known already alters no word.
+// A tap on a sound book: what stops it (refused, or known already), judged before any word changes; and its taking.
 use answers::NO_ROOM;
 use answers::Reply;
 use answers::SPENT;
@@ -34,10 +34,12 @@ use tally::Tap;
 use tally::pack;
 ghost use mathlib.Core.Path.{_≡_};
 ghost use mathlib.Core.List.{[], _∷_};
+ghost use mathlib.Core.Option.{none};
 ghost use Prim.Native.Nat.{_+_, _-_, _*_, _≤_, _<_};
 ghost use lib.Dec.{T, leb};
 ghost use lib.ListN.{length, getD, set};
 ghost use Rattle.lists.specs.Part.{mid, patch};
+ghost use Rattle.lists.specs.Tests.{firstOf};
 ghost use Rattle.stamp.specs.Parts.{listOf};
 ghost use Rattle.stamp.specs.Stamp.{replace, stampFits, total};
 ghost use Rattle.tally.specs.Standing.{among};
@@ -49,7 +51,7 @@ ghost use Rattle.log.specs.First.{firstWith};
 ghost use Rattle.log.specs.Region.{rowLong, stampLong, recordAt, recordsAt};
 ghost use Rattle.log_moves.specs.Merge.{Fresh, merged};
 ghost use Rattle.meaning.specs.Book.{known};
-ghost use Rattle.meaning.specs.Step.{newRecord, tapRows, tapStep, settle};
+ghost use Rattle.meaning.specs.Step.{newRecord, tapRows, tapStops, tapStep, settle};
 ghost use Rattle.meaning.specs.StepLaws.{TapDone};
 ghost use Rattle.layout.specs.Held.{Held};
 ghost use Rattle.layout.specs.With.{withTable, withLog};
@@ -57,6 +59,16 @@ ghost use Rattle.layout.specs.Words.{bookOf, wordsOf, lawful};
 ghost use Rattle.moves.specs.Places.{noRecord};
 ghost use Rattle.answers.specs.Lent.{Promise};
 ghost use Rattle.answers.specs.LentLaws.{lentOf};
+ghost use Rattle.taking.specs.Stop.{StopsTap};
+
+// The reply that stops a tap, or the tap and its label, which may be taken.
+pub enum TapStop {
+    Stopped(Reply),
+    Clear {
+        tap: Tap,
+        label: Parts,
+    },
+}
 
 // Whether the tap of w is counted.
 fn is_counted(b: &[u64], w: u64) -> bool
@@ -190,30 +202,40 @@ fn enter(b: &mut [u64], w: u64, label: Parts) -> Parts
     stamp_parts(&row)
 }
 
-// A tap, with its label.
-pub fn take_tap(b: &mut [u64], tap: Tap, label: Parts) -> Reply
+// What stops a tap; with nothing, the tap and its label. No word changes.
+pub fn stop_tap(b: &[u64], tap: Tap, label: Parts) -> TapStop
     requires { ⌜ T (lawful (now b)) ⌝ }
     requires { ⌜ T (tapFits tap) ⌝ }
     requires { ⌜ T (stampFits ((bookOf (now b)) .screens) (listOf label)) ⌝ }
-    ensures { λ r. ⌜ Promise (lentOf (tapStep (bookOf (now (b .entry))) tap (listOf label))) r (now (b .exit)) ⌝ }
+    ensures { λ r. ⌜ StopsTap (bookOf (now (b .entry))) tap label r ⌝ }
 {
     if label_unknown(b, label) {
-        return Reply::Refused(UNKNOWN_LABEL);
+        return TapStop::Stopped(Reply::Refused(UNKNOWN_LABEL));
     }
     let w = pack(tap);
     if is_counted(b, w) {
-        return Reply::Already(value_parts(b));
+        return TapStop::Stopped(Reply::Already(value_parts(b)));
     }
     let n = b[LOGGED] as usize;
     let i = find_tap(b, w);
     if i < n {
-        return Reply::Already(logged_stamp(b, i));
+        return TapStop::Stopped(Reply::Already(logged_stamp(b, i)));
     }
     if is_spent(b) {
-        return Reply::Refused(SPENT);
+        return TapStop::Stopped(Reply::Refused(SPENT));
     }
     if n >= LOG_ROOM as usize {
-        return Reply::Refused(NO_ROOM);
+        return TapStop::Stopped(Reply::Refused(NO_ROOM));
     }
+    TapStop::Clear { tap, label }
+}
+
+// A tap that nothing stops, with its label, taken.
+pub fn take_tap(b: &mut [u64], tap: Tap, label: Parts) -> Reply
+    requires { ⌜ T (lawful (now b)) ⌝ }
+    requires { ⌜ firstOf (tapStops (bookOf (now b)) tap (listOf label)) ≡ none ⌝ }
+    ensures { λ r. ⌜ Promise (lentOf (tapStep (bookOf (now (b .entry))) tap (listOf label))) r (now (b .exit)) ⌝ }
+{
+    let w = pack(tap);
     Reply::Taken(enter(b, w, label))
 }

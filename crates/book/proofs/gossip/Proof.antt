@@ -1,56 +1,36 @@
--- `book::gossip` meets its contract. Assumes nothing.
-use mathlib.Core.Path.{_≡_, sym, subst, _∙_}
-use mathlib.Core.Bool.{true}
-use lib.Dec.{T}
+-- `book::gossip` meets its contract: a stop is the answer, and with none the gossip is taken. Assumes nothing.
+use mathlib.Core.Path.{subst}
 use borrow.Author.Needs.{needs}
-use borrow.Author.Tests.{not-true, not-false}
-use Rattle.wire.specs.Kinds.{headKind}
-use Rattle.gossip.specs.Message.{wellFormed, messageOf}
-use Rattle.gossip.specs.Tags.{not-this}
-use Rattle.gossip.specs.Told.{gossip-untold}
-use Rattle.meaning.specs.Step.{gossipStep}
-use Rattle.layout.specs.Words.{bookOf, lawful}
-use Rattle.answers.specs.Lent.{hearGossip, gossipOn}
-use Rattle.book.specs.Heard.{owes-unsound, owes-unread, gossip-heard, gossip-owes}
+use Rattle.answers.specs.KeepsLaws.{gossip-stopped}
+use Rattle.gossiping.specs.declared.GossipStop.{GossipStop}
+use Rattle.book.specs.Heard.{owes-stop, gossip-may, gossip-owes}
+use Rattle.book.specs.Stop.{GossipStopOn}
 use Rattle.book.proofs.gossip.Statement.{statement}
 use Rattle.book.proofs.gossip.Tie as tie
 
--- past the first test the book is sound
-sound-now : (c : tie.Else1) → lawful (c .before .before .before .before .before .args .b .now) ≡ true
-sound-now c = sym (c .before .sound .ensures) ∙ not-false _ (c .if1 .left)
-
-returns : tie.Need-returns
-unfolding gossipOn
-returns c =
-    let s = c .before .before .before .before .before .args in
-    owes-unsound (s .b .now) (sym (c .before .sound .ensures) ∙ not-true _ (c .if1 .taken)) (hearGossip (bookOf (s .b .now)) (s .msg .now))
-
-returns-2 : tie.Need-returns-2
-unfolding gossipOn headKind
-returns-2 c =
-    let e = c .before .before in
-    let s = e .before .before .before .before .before .args in
-    owes-unread (s .b .now) (sound-now e) (wellFormed (s .msg .now))
-    (gossip-untold (s .msg .now) (c .before .read-gossip .result) (c .before .read-gossip .ensures)
-    (not-this _ _ (c .match .keys2) tt))
-    (gossipStep (bookOf (s .b .now)) (messageOf (s .msg .now)))
-
 take-gossip-requires : tie.Need-take-gossip-requires
 take-gossip-requires c κs =
-    let d = c .before .before in
-    let r = d .before .before in
-    let e = r .before in
-    let s = e .before .before .before .before .before .args in
-    (subst T (sym (sound-now e)) tt, gossip-heard (s .b .now) (s .msg .now) _ _ _ _ (sound-now e) (sym (d .said .given .1) ∙ r .read-gossip .ensures))
+    let k = c .before .before .before .before in
+    let s = k .before .before .before .before .args in
+    let stop = subst (λ (x : GossipStop). GossipStopOn (s .b .now) (s .msg .now) x) (c .before .before .stop2 .given .1) (k .gossip-stop .ensures) in
+    let may = gossip-may (s .b .now) (s .msg .now) (stop .0) in
+    (may .0, (stop .1, (may .1, stop .2)))
 
-returns-3 : tie.Need-returns-3
-returns-3 c =
+returns : tie.Need-returns
+returns c =
+    let k = c .before .before .before in
+    let s = k .before .before .before .before .args in
+    let stop = subst (λ (x : GossipStop). GossipStopOn (s .b .now) (s .msg .now) x) (c .before .stop .given .1) (k .gossip-stop .ensures) in
+    owes-stop _ _ (s .b .now) (gossip-stopped (s .b .now) (s .msg .now) _ stop)
+
+returns-2 : tie.Need-returns-2
+returns-2 c =
     let t = c .before .before in
-    let d = t .before .before .before in
-    let r = d .before .before in
-    let e = r .before in
-    let s = e .before .before .before .before .before .args in
-    gossip-owes (s .b .now) (s .msg .now) _ _ _ _ (sound-now e) (sym (d .said .given .1) ∙ r .read-gossip .ensures) _ _ (t .take-gossip .ensures)
+    let o = t .before .before .before in
+    let k = o .before .before in
+    let s = k .before .before .before .before .args in
+    let stop = subst (λ (x : GossipStop). GossipStopOn (s .b .now) (s .msg .now) x) (o .stop2 .given .1) (k .gossip-stop .ensures) in
+    gossip-owes (s .b .now) (s .msg .now) (stop .0) _ _ (t .take-gossip .ensures)
 
 pub gossip-spec : {M : Type 1} → statement M
 gossip-spec =
@@ -58,11 +38,9 @@ gossip-spec =
     (tie.spec
     (λ c κs. search needs)
     (λ c. search needs)
-    returns
-    (λ c κs. search needs)
     (λ c. search needs)
-    (λ c. search needs)
-    returns-2
     take-gossip-requires
     (λ c. search needs)
-    returns-3)
+    returns
+    (λ c. search needs)
+    returns-2)

@@ -16,7 +16,7 @@ raise-rows-requires c κs =
     let w = s .args in (
       lawful-held (w .b .now) (s .pre .0),
       subst (Raisable (bookOf (w .b .now)) (w .j)) (sym (l .list-of .ensures))
-          (raisable (w .b .now) (w .msg .now) (w .j) (w .n) (w .count) (listOf (w .m)) (s .pre .0) (s .pre .1 .0) (s .pre .1 .1 .0) (s .pre .1 .1 .1 .0)),
+          (raisable (w .b .now) (w .msg .now) (w .j) (w .n) (w .count) (listOf (w .m)) (s .pre .0) (s .pre .1 .0) (s .pre .1 .1 .0)),
     )
 
 take-new-requires : tie.Need-take-new-requires
@@ -24,7 +24,7 @@ take-new-requires c κs =
     let r = c .before .before .before in
     let s = r .before .before .before .before .before .before .before in
     let w = s .args in
-    let q = s .pre .1 .1 .1 .1 in
+    let q = s .pre .1 .1 .1 in
     rows-give (w .b .now) (w .msg .now) (w .j) (w .n) (w .count) (listOf (w .m)) (s .pre .0) (s .pre .1 .0) (s .pre .1 .1 .0) _ (r .before .before .before .list-of .ensures) _ (r .raise-rows .ensures) (w .before .now) (q .0) (w .new) (q .1)
 
 settle-book-requires : tie.Need-settle-book-requires
@@ -33,7 +33,7 @@ settle-book-requires c κs =
     let r = t .before .before .before .before in
     let s = r .before .before .before .before .before .before .before in
     let w = s .args in
-    let q = s .pre .1 .1 .1 .1 in
+    let q = s .pre .1 .1 .1 in
     new-gives (w .b .now) (w .msg .now) (w .j) (w .n) (w .count) (listOf (w .m)) (s .pre .0) (s .pre .1 .0) (s .pre .1 .1 .0) _ (r .before .before .before .list-of .ensures) _ (r .raise-rows .ensures) (w .before .now) (q .0) (w .new) (q .1) _ (t .take-new .ensures)
 
 returns : tie.Need-returns
@@ -43,7 +43,7 @@ returns c =
     let r = t .before .before .before .before in
     let s = r .before .before .before .before .before .before .before in
     let w = s .args in
-    let q = s .pre .1 .1 .1 .1 in
+    let q = s .pre .1 .1 .1 in
     let e = settled-is (w .b .now) (w .msg .now) (w .j) (w .n) (w .count) (listOf (w .m)) (s .pre .0) (s .pre .1 .0) (s .pre .1 .1 .0) _ (r .before .before .before .list-of .ensures) _ (r .raise-rows .ensures) (w .before .now) (q .0) (w .new) (q .1) _ (t .take-new .ensures) in
     (b .settle-book .ensures .0 ∙ e .0, b .settle-book .ensures .1 ∙ e .1)
 
