@@ -41,6 +41,18 @@ module _ (n : ℕ) (h : House) (v : Inv n h) (i : ℕ) (u : i < n) where
   tap-fits : (r : Record) → r ∈ h .history → (t : Tap) → t ∈ tapsIn (r .body) → T (tapFits t)
   tap-fits r m t x = taps-body (r .body) (obeys bodyFits n r (v .taken .obey r m) .body-fits) t x
 
+  applied-below : (p : ℕ) (l : Stamp) → Permitted b p l → (t : Tap) → Applied h i t → t .prompt ≡ p → t .answer ≡ decline → t .showing < showingOf (answerAt h i p l)
+  applied-below p l y t a e f =
+      either (tell (ltb (t .showing) ((standing taps p) .showing)))
+      (λ less. omega (arith, ltb→lt (t .showing) ((standing taps p) .showing) less, y .shown, ap (λ (s : Standing). s .showing) same))
+      (λ more. absurd (omega (arith, decline-counted taps p t there-too e (omega (arith, nltb→le (t .showing) ((standing taps p) .showing) more, standing-over taps p t there-too e)) f, accepted-only (standingAt b p) (y .yes) .1, ap (λ (s : Standing). s .declines) same)))
+    where
+      same : standingAt b p ≡ standing taps p
+      same = fresh-counts n h v i u p (y .asked .prompt-in)
+
+      there-too : t ∈ taps
+      there-too = mem-taps-applied (known b) (h .history) (a .from) t (a .taken) (a .applied) (a .says)
+
   declines-below :
       (p : ℕ) (l : Stamp) → Permitted b p l → (r : Record) → r ∈ h .history → T (atMost (stampOf r) l) → (t : Tap) → t ∈ tapsIn (r .body) → t .prompt ≡ p → t .answer ≡ decline
       → t .showing < showingOf (answerAt h i p l)
@@ -116,6 +128,7 @@ no-refused-consent n lo hi h run =
     let v : Inv n h = run-inv n lo hi run in
     record {
       declines-below = λ i u p l y r m c t x e f. declines-below n h v i u p l (permits-means (h .book i) p l y) r m c t x e f;
+      applied-below = λ i u p l y t a e f. applied-below n h v i u p l (permits-means (h .book i) p l y) t a e f;
       yes-was-tapped = λ i u p l y. yes-was-tapped n h v i u p l (permits-means (h .book i) p l y);
       double-contested = λ i u t w d x y a c.
           let e : verdictOf (standingAt (h .book i) (t .prompt)) ≡ contested = contrary-contested n h v i u t w (double-prompt t w d) (double-answers t w d) x y a c in

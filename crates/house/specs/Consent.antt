@@ -42,6 +42,10 @@ pub record Consent (n : ℕ) (h : House) : Type 0 where
   pub declines-below :
       (i : ℕ) → i < n → (p : ℕ) (l : Stamp) → T (permits (answerAt h i p l)) → (r : Record) → List·Memᴰ r (h .history) → T (atMost (stampOf r) l)
       → (t : Tap) → List·Memᴰ t (tapsIn (r .body)) → t .prompt ≡ p → t .answer ≡ decline → t .showing < showingOf (answerAt h i p l)
+  -- Whatever the label: every decline of that prompt applied on the screen is of a showing below the answered one.
+  pub applied-below :
+      (i : ℕ) → i < n → (p : ℕ) (l : Stamp) → T (permits (answerAt h i p l)) → (t : Tap) → Applied h i t → t .prompt ≡ p → t .answer ≡ decline
+      → t .showing < showingOf (answerAt h i p l)
   -- And the yes was tapped: an accept of that prompt, of the answered showing, was taken and is applied on the screen.
   pub yes-was-tapped :
       (i : ℕ) → i < n → (p : ℕ) (l : Stamp) → T (permits (answerAt h i p l))
