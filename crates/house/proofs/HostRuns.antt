@@ -5,7 +5,7 @@ use mathlib.Core.Path.{_≡_, refl, sym, ap, ap₂, subst, _∙_}
 use mathlib.Core.Logic.{_⊎_, inl, inr}
 use mathlib.Core.Bool.{Bool, true, false, cond}
 use mathlib.Core.List.{List, [], _∷_, _++_}
-use borrow.Author.Tests.{le-ltb, ltb-false, eqb-true, ne-eqb}
+use borrow.Author.Tests.{le-ltb, ltb-false, ne-eqb}
 use lib.Dec.{T, eqb, ltb}
 use lib.ListN.{length, getD, take, drop}
 use Rattle.lists.specs.Facts.{_∈_, either}
@@ -110,7 +110,8 @@ module _ (n : ℕ) (h : LentHouse) (i : ℕ) (u : i < n) (bytes out : List ℕ) 
     where
       go : (c : Bool) → wellFormed bytes ≡ c → Goes (after (fronted (doneBy gossipLong (gossipOn ws bytes))))
       go true w = subst Goes (sym (by-reply gossipLong (gossipOn ws bytes) false (gossip-not-taken ws bytes) s [])) (inl (arrives i u bytes (from (subst T (sym w) tt))))
-      go false w = subst (λ (o : Lent). Goes (after (fronted (doneBy gossipLong o)))) (sym (ill w)) (by-bad (subst (λ (o : Lent). 1 ≤ length (bytesFor (o .reply))) (ill w) s))
+      go false w =
+          subst (λ (o : Lent). Goes (after (fronted (doneBy gossipLong o)))) (sym (ill w)) (by-bad (subst (λ (o : Lent). 1 ≤ length (bytesFor (o .reply))) (ill w) s))
 
   -- a message that was sent stands at the output's front
   message : List ℕ
@@ -146,18 +147,18 @@ module _ (n : ℕ) (h : LentHouse) (i : ℕ) (u : i < n) (bytes out : List ℕ) 
 
   by-done : doneOn ws bytes .room ≤ length out → Goes (after (fronted (doneOn ws bytes)))
   unfolding doneOn
-  by-done room = go (eqb (kindIn bytes) 1) refl (eqb (kindIn bytes) 3) (eqb (kindIn bytes) 4) (readable sendKind bytes) (within ws bytes .some) room
+  by-done room = go (eqb (kindIn bytes) 1) (eqb (kindIn bytes) 3) (eqb (kindIn bytes) 4) (readable sendKind bytes) (within ws bytes .some) room
     where
       done : Bool → Bool → Bool → Bool → Done
       done g t q s =
           cond g (doneBy gossipLong (gossipOn ws bytes)) (cond t (doneBy tapLong (tapOn ws bytes)) (cond q (doneBy questionLong (questionOn ws bytes)) (cond s (sendDone ws) (doneBy refusalLong (badOn ws)))))
 
-      go : (g : Bool) → eqb (kindIn bytes) 1 ≡ g → (t q s : Bool) → 1 ≤ length ((done g t q s) .says) → (done g t q s) .room ≤ length out → Goes (after (fronted (done g t q s)))
-      go true e t q s some l = by-gossip some
-      go false e true q s some l = by-tap some
-      go false e false true s some l = by-question some
-      go false e false false true some l = by-send some l
-      go false e false false false some l = by-bad some
+      go : (g t q s : Bool) → 1 ≤ length ((done g t q s) .says) → (done g t q s) .room ≤ length out → Goes (after (fronted (done g t q s)))
+      go true t q s some l = by-gossip some
+      go false true q s some l = by-tap some
+      go false false true s some l = by-question some
+      go false false false true some l = by-send some l
+      go false false false false some l = by-bad some
 
   -- a call is a step over lent slices and bytes, or leaves the house as it was
   pub call-goes : Goes (afterCall h i bytes out)

@@ -1,4 +1,5 @@
--- The runs of a house that a host drives by `answer` alone: every step is one call, with any bytes and any output. Assumes nothing.
+-- The runs of a house that a host drives by `answer` alone, each step one call with any bytes and any output, and what holds of them.
+-- Assumes nothing.
 use Prim.Native.Nat.{ℕ, _<_}
 use mathlib.Core.Path.{_≡_}
 use mathlib.Core.Logic.{_⊎_}
@@ -26,7 +27,7 @@ afterCall h i bytes out =
       history = cond (eqb (kindOf a) 5) (recordFor (h .words i) bytes ∷ h .history) (h .history);
     }
 
--- One call: any bytes at any screen, and any output. Only gossip, which starts with 1, is handed on as it was sent.
+-- One call: any bytes at any screen, damaged and truncated ones too, and any output. Only well-formed gossip has to be as it was sent.
 pub data Call (n : ℕ) : LentHouse → LentHouse → Type 0 where
   call : {h : LentHouse} (i : ℕ) → i < n → (bytes out : List ℕ) → (T (wellFormed bytes) → List·Memᴰ bytes (h .sent)) → Call n h (afterCall h i bytes out)
 
