@@ -1,21 +1,27 @@
 -- Laws: a request that is stopped answers by its stop and changes neither book nor output, and one that is not is done. Assumes nothing.
 use Prim.Native.Nat.{ℕ}
-use mathlib.Core.Path.{_≡_, refl, sym, ap, subst}
+use native.Mathlib.Omega.{arith}
+use mathlib.Core.Path.{_≡_, refl, sym, ap, subst, _∙_}
 use mathlib.Core.Bool.{Bool, true, false, not, cond}
-use mathlib.Core.List.{List}
+use mathlib.Core.List.{List, _++_}
 use mathlib.Core.Option.{Option, none, some, Option·some-injective, Option·some-ne-none, Option·none-ne-some}
-use lib.Dec.{T}
+use lib.Dec.{T, eqb, ltb}
+use lib.ListN.{length, drop}
 use Rattle.lists.specs.Facts.{clash}
 use Rattle.lists.specs.Tests.{firstOf}
-use Rattle.wire.specs.Kinds.{tapKind, tapAt, stampAt}
+use Rattle.wire.specs.Kinds.{tapKind, questionKind, tapAt, stampAt}
 use Rattle.wire.specs.Read.{lineOf, readable}
-use Rattle.gossip.specs.Message.{wellFormed, messageOf}
+use Rattle.wire.specs.Write.{Output, refuse}
+use Rattle.wire.specs.declared.Written.the-variants.{Wrote, Refused}
+use Rattle.gossip.specs.Message.{bytesOf, wellFormed, messageOf}
+use Rattle.meaning.specs.AnswerLaws.{ask-keeps}
+use Rattle.meaning.specs.Book.{fresh}
 use Rattle.meaning.specs.Reply.{Reply, refusal, isTaken, isGossiped}
-use Rattle.meaning.specs.Step.{Outcome, stopOr, tapStops, tapStep, gossipStops, gossipStep}
+use Rattle.meaning.specs.Step.{Outcome, stopOr, openStops, tapStops, tapStep, ask, send, gossipStops, gossipStep}
 use Rattle.meaning.specs.StepLaws.{tap-out, gossip-out}
 use Rattle.layout.specs.SoundWords.{lawful-held}
-use Rattle.layout.specs.Words.{bookOf, wordsOf, lawful}
-use Rattle.answers.specs.Lent.{Lent, onBook, heard, stopOn, tapStop, tapOn, gossipStop, gossipOn}
+use Rattle.layout.specs.Words.{bookLong, bookOf, wordsOf, lawful}
+use Rattle.answers.specs.Lent.{Lent, onBook, heard, stopOn, tapStop, tapOn, promptIn, labelIn, hearQuestion, questionOn, gossipStop, gossipOn, sendOn, openOr, openOn}
 use Rattle.answers.specs.LentLaws.{lentOf}
 
 module _ (ws : List ℕ) (done : Outcome) where
@@ -99,3 +105,44 @@ module _ (ws bytes : List ℕ) where
   -- gossip that is refused changes no word
   pub gossip-keeps : T (not (isGossiped (gossipOn ws bytes .reply))) → gossipOn ws bytes .words ≡ ws
   gossip-keeps n = not-done ws (gossipOn ws bytes) (isGossiped (gossipOn ws bytes .reply)) (gossipStop ws bytes) gossip-stopped gossip-clear n
+
+-- a question changes no word
+pub question-keeps : (ws bytes : List ℕ) → questionOn ws bytes .words ≡ ws
+unfolding questionOn
+question-keeps ws bytes = go (lawful ws) refl
+  where
+    asked : Outcome
+    asked = ask (bookOf ws) (promptIn ws bytes) (labelIn ws bytes)
+
+    kept : (c : Bool) → heard c (bookOf ws) asked .book ≡ bookOf ws
+    kept true = ask-keeps (bookOf ws) (promptIn ws bytes) (labelIn ws bytes)
+    kept false = refl
+
+    go : (c : Bool) → lawful ws ≡ c → cond c (lentOf (hearQuestion (bookOf ws) bytes)) (record { reply = refusal 11; words = ws }) .words ≡ ws
+    go true e = ap wordsOf (kept (readable (questionKind (bookOf ws .screens)) bytes)) ∙ lawful-held ws (subst T (sym e) tt) .words
+    go false e = refl
+
+-- an open that is refused changes no word
+pub open-keeps : (ws : List ℕ) (i n : ℕ) (r : Reply) → openOn ws i n .refused ≡ some r → openOn ws i n .words ≡ ws
+unfolding openOn
+open-keeps ws i n r e = go (firstOf (openStops (eqb (length ws) bookLong) i n)) e
+  where
+    go : (stop : Option Reply) → openOr ws (wordsOf (fresh i n)) stop .refused ≡ some r → openOr ws (wordsOf (fresh i n)) stop .words ≡ ws
+    go (some x) e = refl
+    go none e = absurd (Option·none-ne-some r e)
+
+-- a send that is refused changes no byte of the output; the book is only read
+pub send-keeps : (ws out : List ℕ) (k : ℕ) → sendOn ws out .answer ≡ Refused k → sendOn ws out .bytes ≡ out
+unfolding sendOn
+send-keeps ws out k e = go (lawful ws) (ltb (length out) (length message)) e
+  where
+    message : List ℕ
+    message = bytesOf (send (bookOf ws))
+
+    sent : Bool → Bool → Output
+    sent l short = cond l (cond short (refuse 12 out) (record { answer = Wrote (length message); bytes = message ++ drop (length message) out })) (refuse 11 out)
+
+    go : (l short : Bool) → (sent l short) .answer ≡ Refused k → (sent l short) .bytes ≡ out
+    go false short e = refl
+    go true true e = refl
+    go true false e = let z : _≡_ {A = ℕ} 0 1 = cc in absurd (omega arith)
