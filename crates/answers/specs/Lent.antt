@@ -15,7 +15,7 @@ use Rattle.wire.specs.declared.Written.the-variants.{Wrote}
 use Rattle.gossip.specs.Message.{wellFormed, messageOf, bytesOf}
 use Rattle.meaning.specs.Book.{Book, fresh}
 use Rattle.meaning.specs.Reply.{Reply, refusal}
-use Rattle.meaning.specs.Step.{Outcome, openStops, tapStep, ask, send, gossipStep}
+use Rattle.meaning.specs.Step.{Outcome, openStops, tapStops, tapStep, ask, send, gossipStops, gossipStep}
 use Rattle.layout.specs.Words.{bookLong, bookOf, wordsOf, lawful}
 use Rattle.answers.specs.Spoken.{spoken}
 use Rattle.answers.specs.declared.Reply as answer
@@ -38,11 +38,20 @@ onBook ws o = cond (lawful ws) (record { reply = o .reply; words = wordsOf (o .b
 abbrev pub heard : Bool → Book → Outcome → Outcome
 heard readable b o = cond readable o (record { reply = refusal 1; book = b })
 
+-- what stops a request, judged before any word changes: 11, then 1, then the first of the step's own stops
+abbrev pub stopOn : List ℕ → Bool → Option Reply → Option Reply
+stopOn ws readable stop = cond (lawful ws) (cond readable stop (some (refusal 1))) (some (refusal 11))
+
 abbrev pub hearTap : Book → List ℕ → Outcome
 hearTap b bytes = let k = tapKind (b .screens) in heard (readable k bytes) b (tapStep b (tapAt 1 (lineOf k bytes)) (stampAt 6 (lineOf k bytes)))
 
 unfoldable pub tapOn : List ℕ → List ℕ → Lent
 tapOn ws bytes = onBook ws (hearTap (bookOf ws) bytes)
+
+unfoldable pub tapStop : List ℕ → List ℕ → Option Reply
+tapStop ws bytes =
+    let k = tapKind (bookOf ws .screens) in
+    stopOn ws (readable k bytes) (firstOf (tapStops (bookOf ws) (tapAt 1 (lineOf k bytes)) (stampAt 6 (lineOf k bytes))))
 
 -- the prompt and the label that a question's bytes hold
 abbrev pub promptIn : List ℕ → List ℕ → ℕ
@@ -62,6 +71,9 @@ hearGossip b bytes = heard (wellFormed bytes) b (gossipStep b (messageOf bytes))
 
 unfoldable pub gossipOn : List ℕ → List ℕ → Lent
 gossipOn ws bytes = onBook ws (hearGossip (bookOf ws) bytes)
+
+unfoldable pub gossipStop : List ℕ → List ℕ → Option Reply
+gossipStop ws bytes = stopOn ws (wellFormed bytes) (firstOf (gossipStops (bookOf ws) (messageOf bytes)))
 
 -- send: 11, then 12; the message at the front of the output, the rest of which stays; the book does not change
 abbrev pub putFront : List ℕ → List ℕ → Output

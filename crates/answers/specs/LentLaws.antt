@@ -1,31 +1,28 @@
 -- Laws: on the words of a sound book an operation is the step of that book; send answers by its list of stops; a promise has one
--- outcome; a question changes nothing. Assumes nothing.
+-- outcome. Assumes nothing.
 use Prim.Native.Nat.{ℕ}
-use mathlib.Core.Path.{_≡_, refl, sym, ap, subst, _∙_}
+use mathlib.Core.Path.{_≡_, refl, sym, ap, _∙_}
 use mathlib.Core.Bool.{Bool, true, false, not, cond}
 use mathlib.Core.List.{List, [], _∷_, _++_}
 use mathlib.Core.Option.{Option, none, some}
-use lib.Dec.{T, ltb}
+use lib.Dec.{ltb}
 use lib.ListN.{length, getD, drop}
 use Rattle.lists.specs.Facts.{is-true}
 use Rattle.lists.specs.Tests.{firstOf}
 use Rattle.stamp.specs.Parts.{partsAt}
 use Rattle.stamp.specs.PartsLaws.{parts-list}
-use Rattle.wire.specs.Kinds.{questionKind, stampAt}
-use Rattle.wire.specs.Read.{lineOf, readable}
 use Rattle.wire.specs.Write.{Output, refuse}
 use Rattle.wire.specs.declared.Written.the-variants.{Wrote}
 use Rattle.gossip.specs.Message.{bytesOf}
-use Rattle.meaning.specs.AnswerLaws.{ask-keeps}
 use Rattle.meaning.specs.Book.{Book}
 use Rattle.meaning.specs.BookLaws.{Sound}
 use Rattle.meaning.specs.Reply.{Reply, refusal, figures}
 use Rattle.meaning.specs.Reply as meaning
-use Rattle.meaning.specs.Step.{Outcome, ask, send, sendStops}
-use Rattle.layout.specs.SoundWords.{sound-shape, sound-lawful, lawful-held}
+use Rattle.meaning.specs.Step.{Outcome, send, sendStops}
+use Rattle.layout.specs.SoundWords.{sound-shape, sound-lawful}
 use Rattle.layout.specs.Words.{bookOf, wordsOf, lawful}
 use Rattle.layout.specs.WordsLaws.{book-words}
-use Rattle.answers.specs.Lent.{Lent, Promise, onBook, heard, hearTap, tapOn, hearQuestion, questionOn, hearGossip, gossipOn, putFront, sendOn}
+use Rattle.answers.specs.Lent.{Lent, Promise, onBook, hearTap, tapOn, hearQuestion, questionOn, hearGossip, gossipOn, putFront, sendOn}
 use Rattle.answers.specs.Spoken.{spoken}
 use Rattle.answers.specs.declared.Reply as answer
 use Rattle.answers.specs.declared.Reply.the-variants as says
@@ -82,19 +79,6 @@ send-first ws out = go (lawful ws) (ltb (length out) (length message))
     go true true = refl
     go true false = refl
     go false s = refl
-
--- a question changes no word
-pub question-keeps : (ws bytes : List ℕ) → questionOn ws bytes .words ≡ ws
-unfolding questionOn
-question-keeps ws bytes = go (lawful ws) refl
-  where
-    kept : (c : Bool) → heard c (bookOf ws) (ask (bookOf ws) (getD (lineOf (questionKind (bookOf ws .screens)) bytes) 1 0) (stampAt 2 (lineOf (questionKind (bookOf ws .screens)) bytes))) .book ≡ bookOf ws
-    kept true = ask-keeps (bookOf ws) (getD (lineOf (questionKind (bookOf ws .screens)) bytes) 1 0) (stampAt 2 (lineOf (questionKind (bookOf ws .screens)) bytes))
-    kept false = refl
-
-    go : (c : Bool) → lawful ws ≡ c → cond c (lentOf (hearQuestion (bookOf ws) bytes)) (record { reply = refusal 11; words = ws }) .words ≡ ws
-    go true e = ap wordsOf (kept (readable (questionKind (bookOf ws .screens)) bytes)) ∙ lawful-held ws (subst T (sym e) tt) .words
-    go false e = refl
 
 -- an answer is settled by the reply that it gives
 abbrev answerOf : Reply → answer.Reply

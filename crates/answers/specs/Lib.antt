@@ -1,3 +1,4 @@
 pub mod Spoken
 pub mod Lent
 pub mod LentLaws
+pub mod KeepsLaws

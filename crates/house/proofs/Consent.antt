@@ -41,21 +41,26 @@ module _ (n : ℕ) (h : House) (v : Inv n h) (i : ℕ) (u : i < n) where
   tap-fits : (r : Record) → r ∈ h .history → (t : Tap) → t ∈ tapsIn (r .body) → T (tapFits t)
   tap-fits r m t x = taps-body (r .body) (obeys bodyFits n r (v .taken .obey r m) .body-fits) t x
 
-  declines-below :
-      (p : ℕ) (l : Stamp) → Permitted b p l → (r : Record) → r ∈ h .history → T (atMost (stampOf r) l) → (t : Tap) → t ∈ tapsIn (r .body) → t .prompt ≡ p → t .answer ≡ decline
-      → t .showing < showingOf (answerAt h i p l)
-  declines-below p l y r m c t x e f =
+  in-taps : (t : Tap) → Applied h i t → t ∈ taps
+  in-taps t a = mem-taps-applied (known b) (h .history) (a .from) t (a .taken) (a .applied) (a .says)
+
+  -- an applied decline that is not below the answered showing would be counted at it
+  applied-below : (p : ℕ) (l : Stamp) → Permitted b p l → (t : Tap) → Applied h i t → t .prompt ≡ p → t .answer ≡ decline → t .showing < showingOf (answerAt h i p l)
+  applied-below p l y t a e f =
       either (tell (ltb (t .showing) ((standing taps p) .showing)))
       (λ less. omega (arith, ltb→lt (t .showing) ((standing taps p) .showing) less, y .shown, ap (λ (s : Standing). s .showing) same))
-      (λ more. absurd (omega (arith, decline-counted taps p t there-too e (omega (arith, nltb→le (t .showing) ((standing taps p) .showing) more, standing-over taps p t there-too e)) f, accepted-only (standingAt b p) (y .yes) .1, ap (λ (s : Standing). s .declines) same)))
+      (λ more. absurd (omega (arith, decline-counted taps p t (in-taps t a) e (top more) f, accepted-only (standingAt b p) (y .yes) .1, ap (λ (s : Standing). s .declines) same)))
     where
       same : standingAt b p ≡ standing taps p
       same = fresh-counts n h v i u p (y .asked .prompt-in)
 
-      there-too : t ∈ taps
-      there-too =
-          mem-taps-applied (known b) (h .history) r t m
-          (covered-is-applied n h v i u r m (λ k. omega (arith, atMost-parts (stampOf r) l c k, y .asked .covered k, y .asked .sound-before .value-known k))) x
+      top : T (not (ltb (t .showing) ((standing taps p) .showing))) → t .showing ≡ (standing taps p) .showing
+      top more = omega (arith, nltb→le (t .showing) ((standing taps p) .showing) more, standing-over taps p t (in-taps t a) e)
+
+  -- a record that the label covers is applied, since the value stamp covers the label
+  label-applied : (p : ℕ) (l : Stamp) → Permitted b p l → (r : Record) → r ∈ h .history → T (atMost (stampOf r) l) → T (isApplied (known b) r)
+  label-applied p l y r m c =
+      covered-is-applied n h v i u r m (λ k. omega (arith, atMost-parts (stampOf r) l c k, y .asked .covered k, y .asked .sound-before .value-known k))
 
   yes-was-tapped : (p : ℕ) (l : Stamp) → Permitted b p l → (t : Tap) × Applied h i t × (t .prompt ≡ p) × (t .answer ≡ accept) × (t .showing ≡ showingOf (answerAt h i p l))
   yes-was-tapped p l y = go (accept-there taps p (omega (arith, accepted-only (standingAt b p) (y .yes) .0, ap (λ (s : Standing). s .accepts) same)))
@@ -82,9 +87,6 @@ module _ (n : ℕ) (h : House) (v : Inv n h) (i : ℕ) (u : i < n) where
     where
       fit : (z : Tap) → Applied h i z → T (tapFits z)
       fit z q = tap-fits (q .from) (q .taken) z (q .says)
-
-      in-taps : (z : Tap) → Applied h i z → z ∈ taps
-      in-taps z q = mem-taps-applied (known b) (h .history) (q .from) z (q .taken) (q .applied) (q .says)
 
       top-t : t .showing ≡ (standing taps (t .prompt)) .showing
       top-t = eqb→eq (t .showing) (highest (ofPrompt (t .prompt) taps)) a ∙ sym (standing-showing taps (t .prompt))
@@ -115,7 +117,10 @@ pub no-refused-consent : (n : ℕ) → fewest ≤ n → n ≤ most → (h : Hous
 no-refused-consent n lo hi h run =
     let v : Inv n h = run-inv n lo hi run in
     record {
-      declines-below = λ i u p l y r m c t x e f. declines-below n h v i u p l (permits-means (h .book i) p l y) r m c t x e f;
+      applied-below = λ i u p l y t a e f. applied-below n h v i u p l (permits-means (h .book i) p l y) t a e f;
+      declines-below = λ i u p l y r m c t x e f.
+          let z : Permitted (h .book i) p l = permits-means (h .book i) p l y in
+          applied-below n h v i u p l z t (record { from = r; taken = m; applied = label-applied n h v i u p l z r m c; says = x }) e f;
       yes-was-tapped = λ i u p l y. yes-was-tapped n h v i u p l (permits-means (h .book i) p l y);
       double-contested = λ i u t w d x y a c.
           let e : verdictOf (standingAt (h .book i) (t .prompt)) ≡ contested = contrary-contested n h v i u t w (double-prompt t w d) (double-answers t w d) x y a c in

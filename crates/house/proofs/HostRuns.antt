@@ -5,7 +5,7 @@ use mathlib.Core.Path.{_≡_, refl, sym, ap, ap₂, subst, _∙_}
 use mathlib.Core.Logic.{_⊎_, inl, inr}
 use mathlib.Core.Bool.{Bool, true, false, cond}
 use mathlib.Core.List.{List, [], _∷_, _++_}
-use borrow.Author.Tests.{le-ltb, ltb-false, eqb-true, ne-eqb}
+use borrow.Author.Tests.{le-ltb, ltb-false, ne-eqb}
 use lib.Dec.{T, eqb, ltb}
 use lib.ListN.{length, getD, take, drop}
 use Rattle.lists.specs.Facts.{_∈_, either}
@@ -14,20 +14,20 @@ use Rattle.wire.specs.Kinds.{sendKind}
 use Rattle.wire.specs.Read.{readable}
 use Rattle.wire.specs.Write.{Output, refuse}
 use Rattle.wire.specs.declared.Written.the-variants.{Wrote}
-use Rattle.gossip.specs.Message.{bytesOf}
+use Rattle.gossip.specs.Message.{bytesOf, wellFormed, messageOf}
 use Rattle.meaning.specs.Reply.{refusal, isTaken}
-use Rattle.meaning.specs.Step.{send}
+use Rattle.meaning.specs.Step.{send, gossipStep}
 use Rattle.layout.specs.Words.{bookOf, wordsOf, lawful}
 use Rattle.layout.specs.SoundWords.{lawful-held}
-use Rattle.answers.specs.Lent.{Lent, tapOn, questionOn, gossipOn, putFront, sendOn}
+use Rattle.answers.specs.Lent.{Lent, onBook, heard, tapOn, questionOn, gossipOn, putFront, sendOn}
 use Rattle.speech.specs.KindLaws.{first-taken, first-no-head, first-head, question-not-taken, gossip-not-taken}
 use Rattle.speech.specs.Speech.{bytesFor, tapLong, questionLong, gossipLong, refusalLong}
 use Rattle.answering.specs.Answer.{Done, doneBy, sendDone, badOn, kindIn, doneOn, Answered, answerBy}
 use Rattle.answering.specs.AnswerLaws.{within}
-use Rattle.house.specs.House.{put, grown}
+use Rattle.house.specs.House.{put, grown, Step}
 use Rattle.house.specs.HostHouse as host
-use Rattle.house.specs.HostHouse.{kindOf, afterCall, Call, call, HostRun}
-use Rattle.house.specs.LentHouse.{LentHouse, recordFor, lentTap, lentQuestion, lentSend, lentGossip, LentStep, tap, question, sends, arrives, LentRun, opened, onward, LentDemand}
+use Rattle.house.specs.HostHouse.{kindOf, afterCall, Call, call, HostRun, HostDemand}
+use Rattle.house.specs.LentHouse.{LentHouse, recordFor, lentTap, lentQuestion, lentSend, lentGossip, LentStep, tap, question, sends, arrives, LentRun, opened, onward, held, LentDemand}
 use Rattle.house.proofs.Invariant.{put-either}
 use Rattle.house.proofs.LentRuns.{lent-demand}
 
@@ -39,7 +39,7 @@ first-said : (says rest : List ℕ) → 1 ≤ length says → cond (eqb (length 
 first-said [] rest h = absurd (omega arith)
 first-said (x ∷ says) rest h = ap (λ (c : Bool). cond c 0 x) (ne-eqb (length (x ∷ says)) 0 (λ e. omega arith))
 
-module _ (n : ℕ) (h : LentHouse) (i : ℕ) (u : i < n) (bytes out : List ℕ) (from : kindIn bytes ≡ 1 → bytes ∈ h .sent) where
+module _ (n : ℕ) (h : LentHouse) (i : ℕ) (u : i < n) (bytes out : List ℕ) (from : T (wellFormed bytes) → bytes ∈ h .sent) where
   ws : List ℕ
   ws = h .words i
 
@@ -83,10 +83,6 @@ module _ (n : ℕ) (h : LentHouse) (i : ℕ) (u : i < n) (bytes out : List ℕ) 
   unfolding ws lentQuestion
   by-question s = subst Goes (sym (by-reply questionLong (questionOn ws bytes) false (question-not-taken ws bytes) s [])) (inl (question i u bytes))
 
-  by-gossip : kindIn bytes ≡ 1 → 1 ≤ length (bytesFor (gossipOn ws bytes .reply)) → Goes (after (fronted (doneBy gossipLong (gossipOn ws bytes))))
-  unfolding ws lentGossip
-  by-gossip e s = subst Goes (sym (by-reply gossipLong (gossipOn ws bytes) false (gossip-not-taken ws bytes) s [])) (inl (arrives i u bytes (from e)))
-
   -- a refusal leaves the house as it was
   by-refusal : (room k : ℕ) → 1 ≤ length (bytesFor (refusal k)) → (words : List ℕ) → words ≡ ws → Goes (after (fronted (doneBy room (record { reply = refusal k; words = words }))))
   by-refusal room k s words e =
@@ -102,6 +98,20 @@ module _ (n : ℕ) (h : LentHouse) (i : ℕ) (u : i < n) (bytes out : List ℕ) 
       go : (c : Bool) → lawful ws ≡ c → 1 ≤ length (bytesFor ((bad c) .reply)) → Goes (after (fronted (doneBy refusalLong (bad c))))
       go true e s = by-refusal refusalLong 1 s (wordsOf (bookOf ws)) (lawful-held ws (subst T (sym e) tt) .words)
       go false e s = by-refusal refusalLong 11 s ws refl
+
+  -- bytes that are no gossip message are refused like any other bytes that are no request
+  ill : wellFormed bytes ≡ false → gossipOn ws bytes ≡ badOn ws
+  unfolding gossipOn
+  ill w = ap (λ (c : Bool). onBook ws (heard c (bookOf ws) (gossipStep (bookOf ws) (messageOf bytes)))) w
+
+  by-gossip : 1 ≤ length (bytesFor (gossipOn ws bytes .reply)) → Goes (after (fronted (doneBy gossipLong (gossipOn ws bytes))))
+  unfolding ws lentGossip
+  by-gossip s = go (wellFormed bytes) refl
+    where
+      go : (c : Bool) → wellFormed bytes ≡ c → Goes (after (fronted (doneBy gossipLong (gossipOn ws bytes))))
+      go true w = subst Goes (sym (by-reply gossipLong (gossipOn ws bytes) false (gossip-not-taken ws bytes) s [])) (inl (arrives i u bytes (from (subst T (sym w) tt))))
+      go false w =
+          subst (λ (o : Lent). Goes (after (fronted (doneBy gossipLong o)))) (sym (ill w)) (by-bad (subst (λ (o : Lent). 1 ≤ length (bytesFor (o .reply))) (ill w) s))
 
   -- a message that was sent stands at the output's front
   message : List ℕ
@@ -137,18 +147,18 @@ module _ (n : ℕ) (h : LentHouse) (i : ℕ) (u : i < n) (bytes out : List ℕ) 
 
   by-done : doneOn ws bytes .room ≤ length out → Goes (after (fronted (doneOn ws bytes)))
   unfolding doneOn
-  by-done room = go (eqb (kindIn bytes) 1) refl (eqb (kindIn bytes) 3) (eqb (kindIn bytes) 4) (readable sendKind bytes) (within ws bytes .some) room
+  by-done room = go (eqb (kindIn bytes) 1) (eqb (kindIn bytes) 3) (eqb (kindIn bytes) 4) (readable sendKind bytes) (within ws bytes .some) room
     where
       done : Bool → Bool → Bool → Bool → Done
       done g t q s =
           cond g (doneBy gossipLong (gossipOn ws bytes)) (cond t (doneBy tapLong (tapOn ws bytes)) (cond q (doneBy questionLong (questionOn ws bytes)) (cond s (sendDone ws) (doneBy refusalLong (badOn ws)))))
 
-      go : (g : Bool) → eqb (kindIn bytes) 1 ≡ g → (t q s : Bool) → 1 ≤ length ((done g t q s) .says) → (done g t q s) .room ≤ length out → Goes (after (fronted (done g t q s)))
-      go true e t q s some l = by-gossip (eqb-true (kindIn bytes) 1 e) some
-      go false e true q s some l = by-tap some
-      go false e false true s some l = by-question some
-      go false e false false true some l = by-send some l
-      go false e false false false some l = by-bad some
+      go : (g t q s : Bool) → 1 ≤ length ((done g t q s) .says) → (done g t q s) .room ≤ length out → Goes (after (fronted (done g t q s)))
+      go true t q s some l = by-gossip some
+      go false true q s some l = by-tap some
+      go false false true s some l = by-question some
+      go false false false true some l = by-send some l
+      go false false false false some l = by-bad some
 
   -- a call is a step over lent slices and bytes, or leaves the house as it was
   pub call-goes : Goes (afterCall h i bytes out)
@@ -172,5 +182,11 @@ module _ (n : ℕ) where
       next {h} r (call i u bytes out from) = either (call-goes n h i u bytes out from) (λ s. onward r s) (λ e. subst (LentRun n) e r)
 
   -- so at every moment of it the third demand holds, and no refused consent goes live
-  pub host-demand : fewest ≤ n → n ≤ most → {h : LentHouse} → HostRun n h → LentDemand n h
-  host-demand lo hi r = lent-demand n lo hi (host-run r)
+  pub host-demand : fewest ≤ n → n ≤ most → {h : LentHouse} → HostRun n h → HostDemand n h
+  host-demand lo hi {h} r = record { lent = d; calls = λ h′ c. calls h′ c }
+    where
+      d : LentDemand n h
+      d = lent-demand n lo hi (host-run r)
+
+      calls : (h′ : LentHouse) → Call n h h′ → Step n (held n h) (held n h′) ⊎ (held n h ≡ held n h′)
+      calls h′ (call i u bytes out from) = either (call-goes n h i u bytes out from) (λ s. d .steps (afterCall h i bytes out) s) (λ e. inr (ap (held n) e))

@@ -31,7 +31,8 @@ use Rattle.meaning.specs.Step.{Outcome, openStops, tapStep, newRecord, ask, sen
 use Rattle.layout.specs.SoundWords.{sound-lawful}
 use Rattle.layout.specs.Words.{bookLong, bookOf, wordsOf, lawful}
 use Rattle.answers.specs.Lent.{Lent, hearTap, tapOn, promptIn, labelIn, questionOn, gossipOn, putFront, sendOn, openOr, openOn}
-use Rattle.answers.specs.LentLaws.{lentOf, book-back, tap-on, question-on, gossip-on, send-on, question-keeps}
+use Rattle.answers.specs.KeepsLaws.{question-keeps}
+use Rattle.answers.specs.LentLaws.{lentOf, book-back, tap-on, question-on, gossip-on, send-on}
 use Rattle.house.specs.Consent.{answerAt, Consent}
 use Rattle.house.specs.Demand.{Answered, Demand}
 use Rattle.house.specs.House.{House, openHouse, put, grown, afterTap, afterSend, afterGossip, Step, Run}

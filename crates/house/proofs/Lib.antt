@@ -4,6 +4,7 @@ pub mod Numbers
 pub mod Once
 pub mod Demand
 pub mod Consent
+pub mod Witness
 pub mod Agree
 pub mod LentRuns
 pub mod HostRuns

@@ -37,8 +37,12 @@ unfoldable pub isDouble : Tap → Tap → Bool
 isDouble t u = all (eqb (t .front) (u .front) ∷ eqb (t .serial) (u .serial) ∷ eqb (t .prompt) (u .prompt) ∷ not (eqb (t .answer) (u .answer)) ∷ [])
 
 pub record Consent (n : ℕ) (h : House) : Type 0 where
-  -- Permission says yes on a screen for a prompt at a label. Then every taken decline of that prompt whose stamp the label
-  -- covers is of a showing below the answered one.
+  -- Permission says yes on a screen for a prompt, at any label, a label of zeros too. Then every decline of that prompt applied
+  -- on that screen, whoever tapped it, is of a showing below the answered one.
+  pub applied-below :
+      (i : ℕ) → i < n → (p : ℕ) (l : Stamp) → T (permits (answerAt h i p l))
+      → (t : Tap) → Applied h i t → t .prompt ≡ p → t .answer ≡ decline → t .showing < showingOf (answerAt h i p l)
+  -- So is every taken decline of that prompt whose stamp the label covers: it is applied there.
   pub declines-below :
       (i : ℕ) → i < n → (p : ℕ) (l : Stamp) → T (permits (answerAt h i p l)) → (r : Record) → List·Memᴰ r (h .history) → T (atMost (stampOf r) l)
       → (t : Tap) → List·Memᴰ t (tapsIn (r .body)) → t .prompt ≡ p → t .answer ≡ decline → t .showing < showingOf (answerAt h i p l)

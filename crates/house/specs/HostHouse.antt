@@ -1,14 +1,17 @@
--- The runs of a house that a host drives by `answer` alone: every step is one call, with any bytes and any output. Assumes nothing.
+-- The runs of a house that a host drives by `answer` alone, each step one call with any bytes and any output, and what holds of them.
+-- Assumes nothing.
 use Prim.Native.Nat.{ℕ, _<_}
 use mathlib.Core.Path.{_≡_}
+use mathlib.Core.Logic.{_⊎_}
 use mathlib.Core.Bool.{cond}
 use mathlib.Core.List.{List, _∷_, List·Memᴰ}
-use lib.Dec.{eqb}
+use lib.Dec.{T, eqb}
 use lib.ListN.{length, getD, take}
 use Rattle.layout.specs.Words.{bookLong}
-use Rattle.answering.specs.Answer.{kindIn, Answered, answerOn}
-use Rattle.house.specs.House.{put}
-use Rattle.house.specs.LentHouse.{LentHouse, openLent, recordFor}
+use Rattle.gossip.specs.Message.{wellFormed}
+use Rattle.answering.specs.Answer.{Answered, answerOn}
+use Rattle.house.specs.House.{put, Step}
+use Rattle.house.specs.LentHouse.{LentHouse, openLent, recordFor, held, LentDemand}
 
 -- the kind of the reply that a call gave: its first byte, and 0 where it gave none
 abbrev pub kindOf : Answered → ℕ
@@ -24,11 +27,17 @@ afterCall h i bytes out =
       history = cond (eqb (kindOf a) 5) (recordFor (h .words i) bytes ∷ h .history) (h .history);
     }
 
--- One call: any bytes at any screen, and any output. Only gossip, which starts with 1, is handed on as it was sent.
+-- One call: any bytes at any screen, damaged and truncated ones too, and any output. Only well-formed gossip has to be as it was sent.
 pub data Call (n : ℕ) : LentHouse → LentHouse → Type 0 where
-  call : {h : LentHouse} (i : ℕ) → i < n → (bytes out : List ℕ) → (kindIn bytes ≡ 1 → List·Memᴰ bytes (h .sent)) → Call n h (afterCall h i bytes out)
+  call : {h : LentHouse} (i : ℕ) → i < n → (bytes out : List ℕ) → (T (wellFormed bytes) → List·Memᴰ bytes (h .sent)) → Call n h (afterCall h i bytes out)
 
 -- a run: each screen opened once, with its own number, on any slice of the one length; then any calls
 pub data HostRun (n : ℕ) : LentHouse → Type 0 where
   opened : (lent : ℕ → List ℕ) → ((i : ℕ) → i < n → length (lent i) ≡ bookLong) → HostRun n (openLent lent n)
   onward : {h h′ : LentHouse} → HostRun n h → Call n h h′ → HostRun n h′
+
+pub record HostDemand (n : ℕ) (h : LentHouse) : Type 0 where
+  -- all that holds of lent slices and bytes
+  pub lent : LentDemand n h
+  -- a call is a step of the books that the slices hold, or leaves the house as it was: so what is said of steps is said of calls
+  pub calls : (h′ : LentHouse) → Call n h h′ → Step n (held n h) (held n h′) ⊎ (held n h ≡ held n h′)

@@ -2,18 +2,19 @@
 use Prim.Native.Nat.{ℕ}
 use mathlib.Core.Path.{_≡_, refl}
 use mathlib.Core.Bool.{true}
-use mathlib.Core.List.{_∷_, [], List, map}
+use mathlib.Core.List.{_∷_, [], List, _++_}
 use Rattle.lists.specs.Table.{agrees}
 use Rattle.stamp.specs.Stamp.{Stamp}
 use Rattle.ledger.specs.Log.{unknowns, waitingIn, remaining}
-use Rattle.ledger.specs.Record.{Record, stampOf, knows, isKnown, isApplied, isWaiting, everywhere, mayGo}
+use Rattle.ledger.specs.Record.{Record, place, stampOf, knows, isKnown, isApplied, isWaiting, everywhere, mayGo}
 
--- a stamp by its first parts, and the numbers of some records
+-- a stamp by its first parts, and the places of some records: origin, number, one after the other
 abbrev pub at : ℕ → ℕ → ℕ → Stamp
 at a b c = a ∷ b ∷ c ∷ 0 ∷ 0 ∷ 0 ∷ 0 ∷ 0 ∷ []
 
-abbrev pub numbersOf : List Record → List ℕ
-numbersOf rs = map (λ r. r .number) rs
+abbrev pub placesOf : List Record → List ℕ
+placesOf [] = []
+placesOf (r ∷ rs) = place r ++ placesOf rs
 
 -- record 1 of origin 0 with a label
 first : Stamp → Record
@@ -23,14 +24,14 @@ pub table : List (List ℕ × List ℕ)
 table =
     -- a record with stamp (1,5,0) is not new under the known stamp (1,0,0): only the origin's part counts
     (stampOf (first (at 0 5 0)), at 1 5 0)
-    ∷ (numbersOf (unknowns (at 1 0 0) (first (at 0 5 0) ∷ [])), [])
-    ∷ (numbersOf (unknowns (at 0 5 0) (first (at 0 5 0) ∷ [])), 1 ∷ [])
+    ∷ (placesOf (unknowns (at 1 0 0) (first (at 0 5 0) ∷ [])), [])
+    ∷ (placesOf (unknowns (at 0 5 0) (first (at 0 5 0) ∷ [])), 0 ∷ 1 ∷ [])
     -- N. N is 2: the tap with label (0,9) waits, and stays in the log though both screens know it
-    ∷ (numbersOf (waitingIn (at 1 0 0) (first (at 0 9 0) ∷ [])), 1 ∷ [])
-    ∷ (numbersOf (remaining (at 1 0 0) (at 1 0 0 ∷ at 1 0 0 ∷ []) (first (at 0 9 0) ∷ [])), 1 ∷ [])
+    ∷ (placesOf (waitingIn (at 1 0 0) (first (at 0 9 0) ∷ [])), 0 ∷ 1 ∷ [])
+    ∷ (placesOf (remaining (at 1 0 0) (at 1 0 0 ∷ at 1 0 0 ∷ []) (first (at 0 9 0) ∷ [])), 0 ∷ 1 ∷ [])
     -- applied, it stays until every row has it
-    ∷ (numbersOf (remaining (at 1 0 0) (at 1 0 0 ∷ at 0 0 0 ∷ []) (first (at 0 0 0) ∷ [])), 1 ∷ [])
-    ∷ (numbersOf (remaining (at 1 0 0) (at 1 0 0 ∷ at 1 0 0 ∷ []) (first (at 0 0 0) ∷ [])), [])
+    ∷ (placesOf (remaining (at 1 0 0) (at 1 0 0 ∷ at 0 0 0 ∷ []) (first (at 0 0 0) ∷ [])), 0 ∷ 1 ∷ [])
+    ∷ (placesOf (remaining (at 1 0 0) (at 1 0 0 ∷ at 1 0 0 ∷ []) (first (at 0 0 0) ∷ [])), [])
     ∷ []
 
 pub records-practised : agrees table ≡ true

@@ -19,7 +19,7 @@ use Rattle.tally.specs.declared.Standing.{Standing}
 use Rattle.meaning.specs.Book.{Book, standingAt, sound, known}
 use Rattle.meaning.specs.Reply.{Reply, isAnswered, permits, refusal, verdict, showingOf, taken, already, wait, gossiped, figures}
 use Rattle.meaning.specs.BookLaws.{Sound, sound-at, at-sound}
-use Rattle.meaning.specs.Step.{ask, askStops, stopOr, answerOf, Outcome}
+use Rattle.meaning.specs.Step.{ask, askStops, stopOr, answerOf, Outcome, unknownLabel}
 
 -- a question changes no book
 pub ask-keeps : (b : Book) (p : ℕ) (l : Stamp) → (ask b p l) .book ≡ b
@@ -69,16 +69,20 @@ ask-cases b p l = go (firstOf (askStops b p l)) refl
         )
     go none e = inr (passed (firstOf-none (askStops b p l) e), ap (λ (x : Option Reply). (stopOr b out x) .reply) e)
 
+-- refusal 3 is given only to a label whose part i exceeds the known stamp's
+label-exceeds : (b : Book) (l : Stamp) → T (unknownLabel b l) → part (known b) (b .me) < part l (b .me)
+label-exceeds b l t = ltb→lt (part (known b) (b .me)) (part l (b .me)) t
+
 pub ask-answers : (b : Book) (p : ℕ) (l : Stamp) → AskDone b p l → (ask b p l) .reply ≡ answerOf (standingAt b p) (b .value)
 unfolding ask askStops
 ask-answers b p l d = ap (λ (x : Option Reply). (stopOr b (record { reply = answerOf (standingAt b p) (b .value); book = b }) x) .reply) (none-first (askStops b p l) clear)
   where
     clear : T (every (λ c. not (c .0)) (askStops b p l))
     clear =
-        all-from {cs = not (not (sound b)) ∷ not (not (ltb p promptCount && stampFits (b .screens) l)) ∷ not (ltb (part (known b) (b .me)) (part l (b .me))) ∷ not (not (atMost l (b .value))) ∷ []}
+        all-from {cs = not (not (sound b)) ∷ not (not (ltb p promptCount && stampFits (b .screens) l)) ∷ not (unknownLabel b l) ∷ not (not (atMost l (b .value))) ∷ []}
         (not-intro (sound b) (at-sound b (d .sound-before))
         also not-intro (ltb p promptCount && stampFits (b .screens) l) (both (ltb p promptCount) (stampFits (b .screens) l) (lt→ltb p promptCount (d .prompt-in)) (d .label-fits))
-        also not-from (ltb (part (known b) (b .me)) (part l (b .me))) (λ u. omega (arith, ltb→lt (part (known b) (b .me)) (part l (b .me)) u, d .covered (b .me), d .sound-before .value-known (b .me)))
+        also not-from (unknownLabel b l) (λ u. omega (arith, label-exceeds b l u, d .covered (b .me), d .sound-before .value-known (b .me)))
         also not-intro (atMost l (b .value)) (parts-atMost l (b .value) (d .covered))
         also done)
 

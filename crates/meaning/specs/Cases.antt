@@ -1,4 +1,5 @@
--- Taps on the practice car: document 01's starred cases A to L as one table, and the order of refusals as another; one claim. Assumes nothing.
+-- Taps on the practice car: document 01's starred cases A to L as one table, the order of refusals as another, and as a third what
+-- answers and refusals go by; one claim. Assumes nothing.
 use Prim.Native.Nat.{ℕ, suc}
 use mathlib.Core.Path.{_≡_, refl}
 use mathlib.Core.Bool.{Bool, false, true}
@@ -12,7 +13,7 @@ use Rattle.tally.specs.Limits.{frontEnds, serials, promptCount, showings, accep
 use Rattle.tally.specs.Standing.{among, countAll, ofPrompt, howMany, standing, standingOf, afresh, unasked, accepted, declined, contested, verdictOf}
 use Rattle.tally.specs.Tap.{wordOf, sameTap, tapFits, bodyFits}
 use Rattle.tally.specs.declared.Tap.{Tap}
-use Rattle.ledger.specs.Cases.{at, numbersOf}
+use Rattle.ledger.specs.Cases.{at, placesOf}
 use Rattle.ledger.specs.Limits.{bookRoom, fewest, most, logRoom}
 use Rattle.ledger.specs.Log.{unknowns, gathered, newlyApplied, remaining, waitingIn, allHeld, gapless}
 use Rattle.ledger.specs.Message.{Message, inRange, messageFits}
@@ -22,24 +23,43 @@ use Rattle.meaning.specs.Reply.{figures, Reply}
 use Rattle.meaning.specs.Step.{send, Outcome, tapStep, gossipStep, ask, openStops, sendStops, nowApplied, tapsOf, nowCounted, settle, newRecord, tapRows, tapStops, askStops, answerOf, newOnes, gossipRows, gossipStops}
 
 -- front end, serial, prompt, showing, answer
-tapped : ℕ → ℕ → ℕ → ℕ → ℕ → Tap
+unfoldable pub tapped : ℕ → ℕ → ℕ → ℕ → ℕ → Tap
 tapped f s p h a = record { front = f; serial = s; prompt = p; showing = h; answer = a }
+
+-- the record with number q of origin k that says the tap, at a label
+saying : Tap → ℕ → ℕ → Stamp → Record
+saying t k q l = record { origin = k; number = q; label = l; body = wordOf t }
 
 -- sender, N, stamp, records
 message : ℕ → ℕ → Stamp → List Record → Message
 message j n s rs = record { sender = j; screens = n; stamp = s; records = rs }
 
-says : Outcome → List ℕ
+-- what a step says; who unfolds this computes with all that the steps are made of
+unfoldable pub says : Outcome → List ℕ
+unfolding parts word zeros stampFits frontEnds serials promptCount showings accept decline sameTap tapFits bodyFits among
+    countAll ofPrompt howMany standingOf standing afresh unasked accepted declined contested verdictOf fewest most logRoom
+    bookRoom inRange messageFits stampOf knows isKnown isApplied isWaiting everywhere mayGo has recordFits unknowns gathered
+    newlyApplied remaining waitingIn allHeld gapless row known standingAt waiting fresh holds countedIn clauses sound figures
+    nowApplied tapsOf nowCounted settle newRecord tapRows tapStops tapStep askStops answerOf ask send newOnes gossipRows
+    gossipStops gossipStep flatMap
 says o = figures (o .reply)
 
 stopped : List (Bool × Reply) → List ℕ
+unfolding openStops sendStops figures
 stopped stops = elim (firstOf stops) [ none ↦ [] | some r ↦ figures r ]
 
+-- the taps of cases A and B
+tapA : Tap
+tapA = tapped 5 1 7 1 1
+
+tapB : Tap
+tapB = tapped 5 2 7 1 2
+
 A : Outcome
-A = tapStep (fresh 0 3) (tapped 5 1 7 1 1) (at 0 0 0)
+A = tapStep (fresh 0 3) tapA (at 0 0 0)
 
 B : Outcome
-B = tapStep (A .book) (tapped 5 2 7 1 2) (at 0 0 0)
+B = tapStep (A .book) tapB (at 0 0 0)
 
 E : Outcome
 E = gossipStep (fresh 1 3) (send (B .book))
@@ -49,6 +69,17 @@ G = tapStep (fresh 2 3) (tapped 6 1 7 2 1) (at 1 0 0)
 
 H : Outcome
 H = gossipStep (G .book) (send (B .book))
+
+-- on a fresh 0 B's tap is counted; then A's tap waits for a record of 1
+counts : Outcome
+counts = tapStep (fresh 0 3) tapB (at 0 0 0)
+
+waits : Outcome
+waits = tapStep (counts .book) tapA (at 0 9 0)
+
+-- a fresh 1 gets A's tap in two records, of 0 and of 2, and both wait
+waitsTwice : Outcome
+waitsTwice = gossipStep (fresh 1 3) (message 0 3 (at 1 0 1) (saying tapA 0 1 (at 0 0 9) ∷ saying tapA 2 1 (at 9 0 0) ∷ []))
 
 -- what the definitions give, beside what the document says
 pub starred : List (List ℕ × List ℕ)
@@ -60,17 +91,17 @@ starred =
     ∷ (says B, 5 ∷ at 2 0 0)
     ∷ (says (ask (B .book) 7 (at 2 0 0)), 7 ∷ 3 ∷ 1 ∷ 1 ∷ 1 ∷ at 2 0 0)
     -- C. A's tap again: Already (2,0,0)
-    ∷ (says (tapStep (B .book) (tapped 5 1 7 1 1) (at 0 0 0)), 6 ∷ at 2 0 0)
+    ∷ (says (tapStep (B .book) tapA (at 0 0 0)), 6 ∷ at 2 0 0)
     -- D. Fresh 1, question at (1,0,0): Wait 0x01
     ∷ (says (ask (fresh 1 3) 7 (at 1 0 0)), 8 ∷ 1 ∷ [])
-    -- E. 1 gets 0's gossip sent after B: 2 new, 2 applied; its log keeps both
+    -- E. 1 gets 0's gossip sent after B: 2 new, 2 applied; its log keeps both, records 1 and 2 of 0
     ∷ (says E, 10 ∷ 2 ∷ 2 ∷ [])
-    ∷ (numbersOf (E .book .log), 1 ∷ 2 ∷ [])
+    ∷ (placesOf (E .book .log), 0 ∷ 1 ∷ 0 ∷ 2 ∷ [])
     -- F. The same message again: 4
     ∷ (says (gossipStep (E .book) (send (B .book))), 9 ∷ 4 ∷ [])
-    -- G. Taken (1,0,1), waiting. Question at zero: Unasked. At (1,0,1): Wait 0x05
+    -- G. Taken (1,0,1), waiting: record 1 of 2. Question at zero: Unasked. At (1,0,1): Wait 0x05
     ∷ (says G, 5 ∷ at 1 0 1)
-    ∷ (numbersOf (waiting (G .book)), 1 ∷ [])
+    ∷ (placesOf (waiting (G .book)), 2 ∷ 1 ∷ [])
     ∷ (says (ask (G .book) 7 (at 0 0 0)), 7 ∷ 0 ∷ 0 ∷ 0 ∷ 0 ∷ at 0 0 0)
     ∷ (says (ask (G .book) 7 (at 1 0 1)), 8 ∷ 5 ∷ [])
     -- H. 2 then gets E's message: 2 new, 3 applied, value stamp (2,0,1), Accepted at showing 2
@@ -81,7 +112,7 @@ starred =
     ∷ (says (tapStep (B .book) (tapped 5 3 7 1 1) (at 3 0 0)), 9 ∷ 3 ∷ [])
     ∷ (says (tapStep (B .book) (tapped 5 3 7 1 1) (at 2 0 0)), 5 ∷ at 3 0 0)
     -- J. Fresh 1, from 0, stamp (2,0,0), only record 2 of 0: 8
-    ∷ (says (gossipStep (fresh 1 3) (message 0 3 (at 2 0 0) (record { origin = 0; number = 2; label = at 0 0 0; body = wordOf (tapped 5 2 7 1 2) } ∷ []))), 9 ∷ 8 ∷ [])
+    ∷ (says (gossipStep (fresh 1 3) (message 0 3 (at 2 0 0) (saying tapB 0 2 (at 0 0 0) ∷ []))), 9 ∷ 8 ∷ [])
     -- K. Fresh 1, from 0, stamp (0,1,0): 6
     ∷ (says (gossipStep (fresh 1 3) (message 0 3 (at 0 1 0) [])), 9 ∷ 6 ∷ [])
     -- L. After H on 2, from 0, stamp (1,1,0): 5
@@ -99,7 +130,7 @@ ordered =
     -- tap: 11 before 1, 1 before 3, 3 before Already
     ∷ (says (tapStep (fresh 3 3) (tapped 5 1 7 1 0) (at 0 0 0)), 9 ∷ 11 ∷ [])
     ∷ (says (tapStep (B .book) (tapped 5 1 7 1 0) (at 3 0 0)), 9 ∷ 1 ∷ [])
-    ∷ (says (tapStep (B .book) (tapped 5 1 7 1 1) (at 3 0 0)), 9 ∷ 3 ∷ [])
+    ∷ (says (tapStep (B .book) tapA (at 3 0 0)), 9 ∷ 3 ∷ [])
     -- question: 11 before 1, 1 before 3, 3 before Wait
     ∷ (says (ask (fresh 3 3) 64 (at 0 0 0)), 9 ∷ 11 ∷ [])
     ∷ (says (ask (B .book) 64 (at 3 0 0)), 9 ∷ 1 ∷ [])
@@ -113,7 +144,20 @@ ordered =
     ∷ (says (gossipStep (E .book) (message 0 3 (at (suc bookRoom) 0 0) [])), 9 ∷ 7 ∷ [])
     ∷ []
 
+-- where another stamp or record is near at hand
+pub judged : List (List ℕ × List ℕ)
+judged =
+    -- Already: a counted tap with the value stamp, not the known one; a waiting one with its first log record's, not the last's
+    (says (tapStep (waits .book) tapB (at 0 0 0)), 6 ∷ at 1 0 0)
+    ∷ (says (tapStep (waits .book) tapA (at 0 0 0)), 6 ∷ at 2 9 0)
+    ∷ (says (tapStep (waitsTwice .book) tapA (at 0 0 0)), 6 ∷ at 1 0 9)
+    -- 3 by the known stamp, not the value stamp: the label may be the stamp of our own waiting record
+    ∷ (says (tapStep (G .book) tapA (at 1 0 1)), 5 ∷ at 1 0 2)
+    -- 4 by row j and 6 by the known stamp: a message may tell just what we know, our own waiting record too
+    ∷ (says (gossipStep (G .book) (message 1 3 (at 0 0 1) [])), 10 ∷ 0 ∷ 0 ∷ [])
+    ∷ []
+
 -- the definitions give each line
-pub practice : (agrees starred ≡ true) × (agrees ordered ≡ true)
-unfolding tapped message says stopped A B E G H starred ordered parts word zeros stampFits frontEnds serials promptCount showings accept decline sameTap tapFits bodyFits among countAll ofPrompt howMany standingOf standing afresh unasked accepted declined contested verdictOf fewest most logRoom bookRoom inRange messageFits stampOf knows isKnown isApplied isWaiting everywhere mayGo has recordFits unknowns gathered newlyApplied remaining waitingIn allHeld gapless row known standingAt waiting fresh holds countedIn clauses sound figures nowApplied tapsOf nowCounted settle newRecord tapRows openStops tapStops tapStep askStops answerOf ask send sendStops newOnes gossipRows gossipStops gossipStep flatMap
-practice = (refl, refl)
+pub practice : (agrees starred ≡ true) × (agrees ordered ≡ true) × (agrees judged ≡ true)
+unfolding tapped saying message says stopped tapA tapB A B E G H counts waits waitsTwice starred ordered judged
+practice = (refl, refl, refl)

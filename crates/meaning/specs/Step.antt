@@ -74,14 +74,17 @@ abbrev pub firstStamp : Tap → List Record → Stamp
 firstStamp t [] = []
 firstStamp t (r ∷ rs) = cond (holds t r) (stampOf r) (firstStamp t rs)
 
+-- label part i exceeds the known stamp's part i
+abbrev pub unknownLabel : Book → Stamp → Bool
+unknownLabel b l = ltb (part (known b) (b .me)) (part l (b .me))
+
 unfoldable pub tapStops : Book → Tap → Stamp → List (Bool × Reply)
 tapStops b t l =
     -- the lent book is unsound
     (not (sound b), refusal 11)
     -- a field rule is broken
     ∷ (not (tapFits t && stampFits (b .screens) l), refusal 1)
-    -- label part i exceeds the known stamp's part i
-    ∷ (ltb (part (known b) (b .me)) (part l (b .me)), refusal 3)
+    ∷ (unknownLabel b l, refusal 3)
     -- the same tap is counted, or in the log
     ∷ (among (b .counted) t, already (b .value))
     ∷ (exists (holds t) (b .log), already (firstStamp t (b .log)))
@@ -102,8 +105,7 @@ askStops b p l =
     (not (sound b), refusal 11)
     -- a field rule is broken
     ∷ (not (ltb p promptCount && stampFits (b .screens) l), refusal 1)
-    -- label part i exceeds the known stamp's part i
-    ∷ (ltb (part (known b) (b .me)) (part l (b .me)), refusal 3)
+    ∷ (unknownLabel b l, refusal 3)
     -- the value stamp does not cover the label: bit k is set exactly when the label's part k exceeds the value stamp's
     ∷ (not (atMost l (b .value)), wait (excess l (b .value)))
     ∷ []
