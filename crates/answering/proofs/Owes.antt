@@ -5,7 +5,7 @@ use mathlib.Core.Path.{_≡_, refl, sym, ap, ap₂, subst, _∙_}
 use mathlib.Core.Logic.{_⊎_, inl, inr}
 use mathlib.Core.Bool.{Bool, true, false, cond}
 use mathlib.Core.List.{List, [], _∷_, _++_}
-use mathlib.Core.Option.{some}
+use mathlib.Core.Option.{none, some}
 use borrow.Author.Tests.{ltb-true, ltb-false, eq-eqb, ne-eqb}
 use lib.Dec.{T, eqb, ltb}
 use lib.ListN.{length, getD, drop}
@@ -18,10 +18,11 @@ use Rattle.wire.specs.declared.Said.the-variants as said
 use Rattle.wire.specs.declared.Written.{Written}
 use Rattle.wire.specs.declared.Written.the-variants.{Wrote, Refused}
 use Rattle.gossip.specs.Message.{bytesOf}
-use Rattle.meaning.specs.Reply.{Reply, refusal}
+use Rattle.meaning.specs.Reply.{Reply, taken, already, verdict, wait, refusal, gossiped, isTaken, isGossiped}
 use Rattle.meaning.specs.Step.{send}
 use Rattle.layout.specs.Words.{bookLong, bookOf, lawful}
-use Rattle.answers.specs.Lent.{Lent, Promise, sendOn, openOn}
+use Rattle.answers.specs.KeepsLaws.{tap-clear, gossip-clear}
+use Rattle.answers.specs.Lent.{Lent, Promise, tapOn, tapStop, gossipOn, gossipStop, putFront, sendOn, openOn}
 use Rattle.answers.specs.Spoken.{spoken}
 use Rattle.answers.specs.declared.Reply as answer
 use Rattle.answers.specs.declared.Reply.the-variants as says
@@ -30,8 +31,8 @@ use Rattle.opening.specs.OpeningLaws.{wrong-length}
 use Rattle.opening.specs.declared.Opening as opening
 use Rattle.opening.specs.declared.Opening.the-variants as opened
 use Rattle.book.specs.Heard.{owes-unsound, owes-unread}
-use Rattle.speech.specs.Speech.{bytesFor, sayable, sayOn, refusalLong}
-use Rattle.speech.specs.SpeechLaws.{says-front, reply-long}
+use Rattle.speech.specs.Speech.{bytesFor, sayable, longOf, sayOn, tapLong, gossipLong}
+use Rattle.speech.specs.SpeechLaws.{says-put, reply-long, tap-says, gossip-says}
 use Rattle.answering.specs.Answer.{Done, doneBy, sendSays, sendDone, badOn, kindIn, answerBy, Answers, openFrom, longIn}
 use Rattle.answering.specs.AnswerLaws.{short, front, unsound-says}
 
@@ -44,28 +45,74 @@ no-kind (x ∷ bytes) e = absurd (omega arith)
 pub same-done : {d e : Done} (ws out : List ℕ) (long : ℕ) (words bytes : List ℕ) → d ≡ e → Answers (answerBy e ws out) long words bytes → Answers (answerBy d ws out) long words bytes
 same-done ws out long words bytes q a = subst (λ (x : Done). Answers (answerBy x ws out) long words bytes) (sym q) a
 
--- a reply at the front of an output that has room for it
-pub put-long : (q : Reply) (out : List ℕ) (w : Written) (bytes : List ℕ) → T (sayable q) → length (bytesFor q) ≤ length out → Meets (sayOn q out) w bytes → longIn w ≡ length (bytesFor q)
-put-long q out w bytes t h m = ap longIn (m .answers ∙ ap (λ (o : Output). o .answer) (says-front q out t h))
+-- a reply at the front of an output
+pub put-long : (q : Reply) (out : List ℕ) (w : Written) (bytes : List ℕ) → T (sayable q) → Meets (sayOn q out) w bytes → longIn w ≡ longIn (putFront (bytesFor q) out .answer)
+put-long q out w bytes t m = ap longIn (m .answers ∙ ap (λ (o : Output). o .answer) (says-put q out t))
 
-pub put-bytes : (q : Reply) (out : List ℕ) (w : Written) (bytes : List ℕ) → T (sayable q) → length (bytesFor q) ≤ length out → Meets (sayOn q out) w bytes → bytes ≡ bytesFor q ++ drop (length (bytesFor q)) out
-put-bytes q out w bytes t h m = m .leaves ∙ ap (λ (o : Output). o .bytes) (says-front q out t h)
+pub put-bytes : (q : Reply) (out : List ℕ) (w : Written) (bytes : List ℕ) → T (sayable q) → Meets (sayOn q out) w bytes → bytes ≡ putFront (bytesFor q) out .bytes
+put-bytes q out w bytes t m = m .leaves ∙ ap (λ (o : Output). o .bytes) (says-put q out t)
 
--- an operation's answer, within the room that was asked for
-module _ (room : ℕ) (o : Lent) (out words : List ℕ) (r : answer.Reply) (p : Promise o r words) (h : room ≤ length out) where
-  pub ready : T (sayable (o .reply)) → length (bytesFor (o .reply)) ≤ room → T (sayable (spoken r)) × (length (bytesFor (spoken r)) ≤ length out)
-  ready t l = (subst (λ (q : Reply). T (sayable q)) (sym (p .answers)) t, omega (arith, ap (λ (q : Reply). length (bytesFor q)) (p .answers)))
+-- what an operation answers can be said
+pub answer-says : (o : Lent) (r : answer.Reply) (words : List ℕ) → Promise o r words → T (sayable (o .reply)) → T (sayable (spoken r))
+answer-says o r words p t = subst (λ (q : Reply). T (sayable q)) (sym (p .answers)) t
 
-  pub owes :
-      (ws : List ℕ) (long : ℕ) (bytes : List ℕ) → long ≡ length (bytesFor (spoken r)) → bytes ≡ bytesFor (spoken r) ++ drop (length (bytesFor (spoken r))) out
-      → Answers (answerBy (doneBy room o) ws out) long words bytes
-  owes ws long bytes e f =
-      let a = front (doneBy room o) ws out h in
-      record {
-        gives = e ∙ ap (λ (q : Reply). length (bytesFor q)) (p .answers) ∙ a .gives;
-        leaves = p .leaves ∙ a .leaves;
-        writes = f ∙ ap (λ (q : Reply). bytesFor q ++ drop (length (bytesFor q)) out) (p .answers) ∙ a .writes;
-      }
+-- what is said put at the front of an output: where it is shorter the words stay, else they are those that are left
+pub put-owes :
+    (d : Done) (ws out words : List ℕ) (long : ℕ) (bytes : List ℕ) → long ≡ longIn (putFront (d .says) out .answer) → bytes ≡ putFront (d .says) out .bytes
+    → (length out < length (d .says) → words ≡ ws) → (length (d .says) ≤ length out → words ≡ d .words) → Answers (answerBy d ws out) long words bytes
+put-owes d ws out words long bytes = go (ltb (length out) (length (d .says))) refl
+  where
+    put : Bool → Output
+    put c = cond c (refuse 12 out) (record { answer = Wrote (length (d .says)); bytes = d .says ++ drop (length (d .says)) out })
+
+    go : (c : Bool) → ltb (length out) (length (d .says)) ≡ c → long ≡ longIn (put c .answer) → bytes ≡ put c .bytes
+        → (length out < length (d .says) → words ≡ ws) → (length (d .says) ≤ length out → words ≡ d .words) → Answers (answerBy d ws out) long words bytes
+    go true e p q s f =
+        let h = ltb-true (length out) (length (d .says)) e in
+        let a = short d ws out h in
+        record { gives = p ∙ a .gives; leaves = s h ∙ a .leaves; writes = q ∙ a .writes }
+    go false e p q s f =
+        let h = ltb-false (length out) (length (d .says)) e in
+        let a = front d ws out h in
+        record { gives = p ∙ a .gives; leaves = f h ∙ a .leaves; writes = q ∙ a .writes }
+
+-- an operation's answer put there: one that changes no word, and one that has room
+module _ (o : Lent) (ws out words : List ℕ) (r : answer.Reply) (p : Promise o r words) (long : ℕ) (bytes : List ℕ)
+    (e : long ≡ longIn (putFront (bytesFor (spoken r)) out .answer)) (f : bytes ≡ putFront (bytesFor (spoken r)) out .bytes) where
+  gives : long ≡ longIn (putFront (bytesFor (o .reply)) out .answer)
+  gives = e ∙ ap (λ (q : Reply). longIn (putFront (bytesFor q) out .answer)) (p .answers)
+
+  writes : bytes ≡ putFront (bytesFor (o .reply)) out .bytes
+  writes = f ∙ ap (λ (q : Reply). putFront (bytesFor q) out .bytes) (p .answers)
+
+  pub owes-kept : words ≡ ws → Answers (answerBy (doneBy o) ws out) long words bytes
+  owes-kept k = put-owes (doneBy o) ws out words long bytes gives writes (λ h. k) (λ h. p .leaves)
+
+  pub owes-room : length (bytesFor (o .reply)) ≤ length out → Answers (answerBy (doneBy o) ws out) long words bytes
+  owes-room l = put-owes (doneBy o) ws out words long bytes gives writes (λ h. absurd (omega (arith, h, l))) (λ h. p .leaves)
+
+-- what is taken says Taken, and gossip that is taken says so
+pub tap-room : (ws bytes : List ℕ) → tapStop ws bytes ≡ none → length (bytesFor (tapOn ws bytes .reply)) ≡ tapLong
+tap-room ws bytes e = reply-long (tapOn ws bytes .reply) (tap-says ws bytes) ∙ taken-long (tapOn ws bytes .reply) (tap-clear ws bytes e)
+  where
+    taken-long : (r : Reply) → T (isTaken r) → longOf r ≡ tapLong
+    taken-long (taken s) t = refl
+    taken-long (already s) t = refl
+    taken-long (verdict v h a d s) t = absurd t
+    taken-long (wait bits) t = absurd t
+    taken-long (refusal k) t = absurd t
+    taken-long (gossiped new applied) t = absurd t
+
+pub gossip-room : (ws bytes : List ℕ) → gossipStop ws bytes ≡ none → length (bytesFor (gossipOn ws bytes .reply)) ≡ gossipLong
+gossip-room ws bytes e = reply-long (gossipOn ws bytes .reply) (gossip-says ws bytes) ∙ gossiped-long (gossipOn ws bytes .reply) (gossip-clear ws bytes e)
+  where
+    gossiped-long : (r : Reply) → T (isGossiped r) → longOf r ≡ gossipLong
+    gossiped-long (taken s) t = absurd t
+    gossiped-long (already s) t = absurd t
+    gossiped-long (verdict v h a d s) t = absurd t
+    gossiped-long (wait bits) t = absurd t
+    gossiped-long (refusal k) t = absurd t
+    gossiped-long (gossiped new applied) t = refl
 
 -- bytes that are no request
 module _ (ws : List ℕ) where
@@ -84,7 +131,7 @@ module _ (ws out : List ℕ) where
   sent sound short = cond sound (cond short (refuse 12 out) (record { answer = Wrote (length message); bytes = message ++ drop (length message) out })) (refuse 11 out)
 
   abbrev done : Bool → Done
-  done sound = let says = cond sound message (bytesFor (refusal 11)) in record { room = length says; says = says; words = ws }
+  done sound = let says = cond sound message (bytesFor (refusal 11)) in record { says = says; words = ws }
 
   pub send-wrote : (n : ℕ) (bytes : List ℕ) (w : Written) → w ≡ Wrote n → Meets (sendOn ws out) w bytes → Answers (answerBy (sendDone ws) ws out) n ws bytes
   unfolding sendOn message
@@ -122,28 +169,17 @@ module _ (ws out : List ℕ) where
     unsound : (k ≡ 12 → ⊥) → (k ≡ 11) × (sendSays ws ≡ bytesFor (refusal 11))
     unsound n = either (refused .1) (λ x. absurd (n (x .0))) (λ x. x)
 
-    two : length (bytesFor (refusal 11)) ≡ refusalLong
-    two = reply-long (refusal 11) unsound-says
-
-    pub send-no-room : (k ≡ 12 → ⊥) → length bytes < refusalLong → Answers (answerBy (sendDone ws) ws out) 0 ws bytes
-    send-no-room n h = not-done (omega (arith, h, two, ap length (unsound n .1), ap length (refused .0)))
-
-    pub send-ready : (k ≡ 12 → ⊥) → refusalLong ≤ length bytes → T (sayable (refusal k)) × (length (bytesFor (refusal k)) ≤ length bytes)
-    send-ready n h =
-        subst (λ (x : ℕ). T (sayable (refusal x)) × (length (bytesFor (refusal x)) ≤ length bytes)) (sym (unsound n .0))
-        (unsound-says, omega (arith, h, two))
+    -- 11 is put like any other reply
+    pub send-ready : (k ≡ 12 → ⊥) → T (sayable (refusal k))
+    send-ready n = subst (λ (x : ℕ). T (sayable (refusal x))) (sym (unsound n .0)) unsound-says
 
     pub send-owes :
-        (k ≡ 12 → ⊥) → refusalLong ≤ length bytes → (long : ℕ) (after : List ℕ) → long ≡ length (bytesFor (refusal k)) → after ≡ bytesFor (refusal k) ++ drop (length (bytesFor (refusal k))) bytes
-        → Answers (answerBy (sendDone ws) ws out) long ws after
-    send-owes n h long after f g =
+        (k ≡ 12 → ⊥) → (long : ℕ) (after : List ℕ) → long ≡ longIn (putFront (bytesFor (refusal k)) bytes .answer)
+        → after ≡ putFront (bytesFor (refusal k)) bytes .bytes → Answers (answerBy (sendDone ws) ws out) long ws after
+    send-owes n long after f g =
         let same : bytesFor (refusal k) ≡ sendSays ws = ap (λ (x : ℕ). bytesFor (refusal x)) (unsound n .0) ∙ sym (unsound n .1) in
-        let a = front (sendDone ws) ws out (omega (arith, h, two, ap length (unsound n .1), ap length (refused .0))) in
-        record {
-          gives = f ∙ ap length same ∙ a .gives;
-          leaves = a .leaves;
-          writes = g ∙ ap₂ (λ (x y : List ℕ). x ++ drop (length x) y) same (refused .0) ∙ a .writes;
-        }
+        put-owes (sendDone ws) ws out ws long after (f ∙ ap₂ (λ (x y : List ℕ). longIn (putFront x y .answer)) same (refused .0))
+        (g ∙ ap₂ (λ (x y : List ℕ). putFront x y .bytes) same (refused .0)) (λ h. refl) (λ h. refl)
 
 -- opening by bytes
 module _ (ws bytes : List ℕ) where

@@ -17,28 +17,27 @@ use Rattle.layout.specs.Words.{bookLong, bookOf, lawful}
 use Rattle.answers.specs.Lent.{Lent, onBook, tapOn, questionOn, gossipOn, Opened, openOn}
 use Rattle.speech.specs.Speech.{bytesFor, tapLong, questionLong, gossipLong, refusalLong}
 
--- what a message comes to: the bytes of its reply and the words that are left; and the room that it asks for before anything is done
+-- what a message comes to: the bytes of its reply, and the words that are left
 pub record Done : Type 0 where
-  pub room : ℕ
   pub says : List ℕ
   pub words : List ℕ
 
-abbrev pub doneBy : ℕ → Lent → Done
-doneBy room o = record { room = room; says = bytesFor (o .reply); words = o .words }
+abbrev pub doneBy : Lent → Done
+doneBy o = record { says = bytesFor (o .reply); words = o .words }
 
--- send says its gossip message, or refusal 11, and asks for just that room
+-- send says its gossip message, or refusal 11
 abbrev pub sendSays : List ℕ → List ℕ
 sendSays ws = cond (lawful ws) (bytesOf (send (bookOf ws))) (bytesFor (refusal 11))
 
 abbrev pub sendDone : List ℕ → Done
-sendDone ws = record { room = length (sendSays ws); says = sendSays ws; words = ws }
+sendDone ws = record { says = sendSays ws; words = ws }
 
 -- bytes that are no request: 11, then 1
 abbrev pub badOn : List ℕ → Lent
 badOn ws = onBook ws (record { reply = refusal 1; book = bookOf ws })
 
 abbrev pub otherDone : List ℕ → List ℕ → Done
-otherDone ws bytes = cond (readable sendKind bytes) (sendDone ws) (doneBy refusalLong (badOn ws))
+otherDone ws bytes = cond (readable sendKind bytes) (sendDone ws) (doneBy (badOn ws))
 
 -- the byte of kind; no bytes have kind 0, which is no request's
 abbrev pub kindIn : List ℕ → ℕ
@@ -47,9 +46,9 @@ kindIn bytes = getD bytes 0 0
 -- kind 1 is gossip, 3 a tap, 4 a question, 12 send
 unfoldable pub doneOn : List ℕ → List ℕ → Done
 doneOn ws bytes =
-    cond (eqb (kindIn bytes) 1) (doneBy gossipLong (gossipOn ws bytes))
-    (cond (eqb (kindIn bytes) 3) (doneBy tapLong (tapOn ws bytes))
-    (cond (eqb (kindIn bytes) 4) (doneBy questionLong (questionOn ws bytes))
+    cond (eqb (kindIn bytes) 1) (doneBy (gossipOn ws bytes))
+    (cond (eqb (kindIn bytes) 3) (doneBy (tapOn ws bytes))
+    (cond (eqb (kindIn bytes) 4) (doneBy (questionOn ws bytes))
     (otherDone ws bytes)))
 
 -- how long the reply is (0: refused with 12), the words and the output
@@ -58,11 +57,16 @@ pub record Answered : Type 0 where
   pub words : List ℕ
   pub bytes : List ℕ
 
--- 12 where the output is too short, and then nothing changes; else the reply at the output's front, the rest of which stays
+-- 12 exactly where the output is shorter than the very reply, and then nothing changes; else the reply at the output's front, the
+-- rest of which stays
 unfoldable pub answerBy : Done → List ℕ → List ℕ → Answered
 answerBy d ws out =
-    cond (ltb (length out) (d .room)) (record { long = 0; words = ws; bytes = out })
+    cond (ltb (length out) (length (d .says))) (record { long = 0; words = ws; bytes = out })
     (record { long = length (d .says); words = d .words; bytes = d .says ++ drop (length (d .says)) out })
+
+-- the kind of the reply that was given: its first byte, and 0 where none was
+abbrev pub kindSaid : Answered → ℕ
+kindSaid a = cond (eqb (a .long) 0) 0 (getD (a .bytes) 0 0)
 
 abbrev pub answerOn : List ℕ → List ℕ → List ℕ → Answered
 answerOn ws bytes out = answerBy (doneOn ws bytes) ws out

@@ -1,17 +1,19 @@
 -- Laws of answering. Assumes nothing.
---     short, front          what answering owes where the output is too short, and where it is not
+--     short, front          what answering owes where the output is shorter than the reply, and where it is not
 --     gossip-done ..        which request the byte of kind tells
---     within                a reply is never empty and is within the room asked for, and that is within the room told beforehand
+--     within                a reply is never empty, and is within the room told beforehand
+--     twelve-exactly        12 exactly where the output is shorter than the very reply
+--     answered, unanswered  with the room told beforehand every message is answered; a message that is not answered changed nothing
+--     answer-keeps          a reply other than Taken and gossip taken leaves every word as it was
 --     one-answer            two outcomes that both meet the promise are equal
---     answered, unanswered  with that room every message is answered; a message that is not answered changed nothing
 use Prim.Native.Nat.{ℕ, _+_, _*_, _≤_, _<_}
 use native.Mathlib.Omega.{arith}
-use mathlib.Core.Path.{_≡_, refl, sym, subst, _∙_}
-use mathlib.Core.Bool.{Bool, true, false, _&&_, cond}
-use mathlib.Core.List.{List, _++_}
-use borrow.Author.Tests.{ltb-true, ltb-false, lt-ltb, le-ltb, ne-eqb}
+use mathlib.Core.Path.{_≡_, refl, sym, ap, subst, _∙_}
+use mathlib.Core.Bool.{Bool, true, false, not, _&&_, cond}
+use mathlib.Core.List.{List, [], _∷_, _++_}
+use borrow.Author.Tests.{ltb-true, lt-ltb, le-ltb, eq-eqb, ne-eqb}
 use lib.Dec.{T, eqb, ltb}
-use lib.ListN.{length, drop}
+use lib.ListN.{length, getD, drop}
 use Rattle.lists.specs.Facts.{is-true, and-l}
 use Rattle.ledger.specs.Limits.{logRoom}
 use Rattle.wire.specs.Kinds.{refusalKind, sendKind, inTable, bodyOf, isLong, shaped, headLong, longest, recordLong}
@@ -22,34 +24,36 @@ use Rattle.gossip.specs.MessageLaws.{length-bytes-of}
 use Rattle.meaning.specs.BookLaws.{send-fits}
 use Rattle.meaning.specs.Reply.{Reply, taken, already, verdict, wait, refusal, gossiped, figures}
 use Rattle.meaning.specs.Step.{send}
-use Rattle.layout.specs.SoundWords.{lawful-sound}
+use Rattle.layout.specs.SoundWords.{lawful-sound, lawful-held}
 use Rattle.layout.specs.Words.{bookOf, wordsOf, lawful}
 use Rattle.answers.specs.Lent.{Lent, tapOn, questionOn, gossipOn}
+use Rattle.answers.specs.KeepsLaws.{tap-keeps, question-keeps, gossip-keeps}
+use Rattle.speech.specs.KindLaws.{first-taken, first-gossiped}
 use Rattle.speech.specs.Speech.{bytesFor, sayable, longOf, tapLong, questionLong, gossipLong, refusalLong}
 use Rattle.speech.specs.SpeechLaws.{reply-long, tap-says, tap-long, question-says, question-long, gossip-says, gossip-long}
-use Rattle.answering.specs.Answer.{Done, doneBy, sendDone, badOn, otherDone, kindIn, doneOn, Answered, answerBy, answerOn, Answers, roomFor}
+use Rattle.answering.specs.Answer.{Done, doneBy, sendDone, badOn, otherDone, kindIn, doneOn, Answered, answerBy, kindSaid, answerOn, Answers, roomFor}
 
-pub short : (d : Done) (ws out : List ℕ) → length out < d .room → Answers (answerBy d ws out) 0 ws out
+pub short : (d : Done) (ws out : List ℕ) → length out < length (d .says) → Answers (answerBy d ws out) 0 ws out
 unfolding answerBy
-short d ws out h = rw (lt-ltb (length out) (d .room) h) (record { gives = refl; leaves = refl; writes = refl })
+short d ws out h = rw (lt-ltb (length out) (length (d .says)) h) (record { gives = refl; leaves = refl; writes = refl })
 
 pub front :
-    (d : Done) (ws out : List ℕ) → d .room ≤ length out
+    (d : Done) (ws out : List ℕ) → length (d .says) ≤ length out
     → Answers (answerBy d ws out) (length (d .says)) (d .words) (d .says ++ drop (length (d .says)) out)
 unfolding answerBy
-front d ws out h = rw (le-ltb (length out) (d .room) h) (record { gives = refl; leaves = refl; writes = refl })
+front d ws out h = rw (le-ltb (length out) (length (d .says)) h) (record { gives = refl; leaves = refl; writes = refl })
 
 -- which request the byte of kind tells
 module _ (ws bytes : List ℕ) where
-  pub gossip-done : kindIn bytes ≡ 1 → doneOn ws bytes ≡ doneBy gossipLong (gossipOn ws bytes)
+  pub gossip-done : kindIn bytes ≡ 1 → doneOn ws bytes ≡ doneBy (gossipOn ws bytes)
   unfolding doneOn
   gossip-done e = rw (e)
 
-  pub tap-done : kindIn bytes ≡ 3 → doneOn ws bytes ≡ doneBy tapLong (tapOn ws bytes)
+  pub tap-done : kindIn bytes ≡ 3 → doneOn ws bytes ≡ doneBy (tapOn ws bytes)
   unfolding doneOn
   tap-done e = rw (e)
 
-  pub question-done : kindIn bytes ≡ 4 → doneOn ws bytes ≡ doneBy questionLong (questionOn ws bytes)
+  pub question-done : kindIn bytes ≡ 4 → doneOn ws bytes ≡ doneBy (questionOn ws bytes)
   unfolding doneOn
   question-done e = rw (e)
 
@@ -76,11 +80,10 @@ bad-says ws = bad-cases (λ r. T (sayable r)) ws tt tt
 pub bad-long : (ws : List ℕ) → length (bytesFor (badOn ws .reply)) ≤ refusalLong
 bad-long ws = omega (arith, reply-long (badOn ws .reply) (bad-says ws), bad-cases (λ r. longOf r ≤ 2) ws (omega arith) (omega arith))
 
--- what is said is not empty, and within the room asked for; and that is within n
+-- what is said is not empty, and within n bytes
 pub record Within (n : ℕ) (d : Done) : Type 0 where
   pub some : 1 ≤ length (d .says)
-  pub fits : length (d .says) ≤ d .room
-  pub room : d .room ≤ n
+  pub fits : length (d .says) ≤ n
 
 reply-some : (r : Reply) → 2 ≤ longOf r
 reply-some (taken s) = omega arith
@@ -90,8 +93,8 @@ reply-some (wait bits) = omega arith
 reply-some (refusal k) = omega arith
 reply-some (gossiped new applied) = omega arith
 
-reply-within : (n : ℕ) (o : Lent) → T (sayable (o .reply)) → length (bytesFor (o .reply)) ≤ n → Within n (doneBy n o)
-reply-within n o t h = record { some = omega (arith, reply-some (o .reply), reply-long (o .reply) t); fits = h; room = omega arith }
+reply-within : (n : ℕ) (o : Lent) → T (sayable (o .reply)) → length (bytesFor (o .reply)) ≤ n → Within n (doneBy o)
+reply-within n o t h = record { some = omega (arith, reply-some (o .reply), reply-long (o .reply) t); fits = h }
 
 sent-long : (ws : List ℕ) → T (lawful ws) → (1 ≤ length (bytesOf (send (bookOf ws)))) × (length (bytesOf (send (bookOf ws))) ≤ longest)
 unfolding send logRoom
@@ -103,10 +106,9 @@ sent-long ws t =
 send-within : (ws : List ℕ) → Within longest (sendDone ws)
 send-within ws = go (lawful ws) refl
   where
-    go : (c : Bool) → lawful ws ≡ c
-        → let says = cond c (bytesOf (send (bookOf ws))) (bytesFor (refusal 11)) in Within longest (record { room = length says; says = says; words = ws })
-    go true e = let l = sent-long ws (subst T (sym e) tt) in record { some = l .0; fits = omega arith; room = l .1 }
-    go false e = let l = reply-long (refusal 11) unsound-says in record { some = omega (arith, l); fits = omega arith; room = omega (arith, l) }
+    go : (c : Bool) → lawful ws ≡ c → Within longest (record { says = cond c (bytesOf (send (bookOf ws))) (bytesFor (refusal 11)); words = ws })
+    go true e = let l = sent-long ws (subst T (sym e) tt) in record { some = l .0; fits = l .1 }
+    go false e = let l = reply-long (refusal 11) unsound-says in record { some = omega (arith, l); fits = omega (arith, l) }
 
 -- send's bytes are of kind 12
 send-kind : (bytes : List ℕ) → readable sendKind bytes ≡ true → eqb (kindIn bytes) 12 ≡ true
@@ -120,29 +122,90 @@ module _ (ws bytes : List ℕ) where
   unfolding doneOn roomFor
   within = go (eqb (kindIn bytes) 1) (eqb (kindIn bytes) 3) (eqb (kindIn bytes) 4) (readable sendKind bytes) refl (eqb (kindIn bytes) 12) refl
     where
-      bad : Within refusalLong (doneBy refusalLong (badOn ws))
+      bad : Within refusalLong (doneBy (badOn ws))
       bad = reply-within refusalLong (badOn ws) (bad-says ws) (bad-long ws)
 
       go : (gossip tap question send : Bool) → readable sendKind bytes ≡ send → (twelve : Bool) → eqb (kindIn bytes) 12 ≡ twelve
           → Within (cond gossip gossipLong (cond tap tapLong (cond question questionLong (cond twelve longest refusalLong))))
-          (cond gossip (doneBy gossipLong (gossipOn ws bytes)) (cond tap (doneBy tapLong (tapOn ws bytes)) (cond question (doneBy questionLong (questionOn ws bytes)) (cond send (sendDone ws) (doneBy refusalLong (badOn ws))))))
+          (cond gossip (doneBy (gossipOn ws bytes)) (cond tap (doneBy (tapOn ws bytes)) (cond question (doneBy (questionOn ws bytes)) (cond send (sendDone ws) (doneBy (badOn ws))))))
       go true tap question send e twelve f = reply-within gossipLong (gossipOn ws bytes) (gossip-says ws bytes) (gossip-long ws bytes)
       go false true question send e twelve f = reply-within tapLong (tapOn ws bytes) (tap-says ws bytes) (tap-long ws bytes)
       go false false true send e twelve f = reply-within questionLong (questionOn ws bytes) (question-says ws bytes) (question-long ws bytes)
       go false false false true e true f = send-within ws
       go false false false true e false f = absurd (subst T (sym (send-kind bytes e) ∙ f) tt)
-      go false false false false e true f = record { some = bad .some; fits = bad .fits; room = omega arith }
+      go false false false false e true f = record { some = bad .some; fits = omega (arith, bad .fits) }
       go false false false false e false f = bad
 
-  pub answered : (out : List ℕ) → roomFor bytes ≤ length out → 1 ≤ answerOn ws bytes out .long
-  answered out h = omega (arith, front (doneOn ws bytes) ws out (omega (arith, within .room)) .gives, within .some)
-
-  pub unanswered : (out : List ℕ) → answerOn ws bytes out .long ≡ 0 → (answerOn ws bytes out .words ≡ ws) × (answerOn ws bytes out .bytes ≡ out)
-  unanswered out none = go (ltb (length out) (doneOn ws bytes .room)) refl
+  -- 12 exactly where the output is shorter than the very reply
+  pub twelve-exactly : (out : List ℕ) → eqb (answerOn ws bytes out .long) 0 ≡ ltb (length out) (length (doneOn ws bytes .says))
+  unfolding answerBy
+  twelve-exactly out = go (ltb (length out) (length (doneOn ws bytes .says)))
     where
-      go : (c : Bool) → ltb (length out) (doneOn ws bytes .room) ≡ c → (answerOn ws bytes out .words ≡ ws) × (answerOn ws bytes out .bytes ≡ out)
-      go true e = let a = short (doneOn ws bytes) ws out (ltb-true (length out) (doneOn ws bytes .room) e) in (sym (a .leaves), sym (a .writes))
-      go false e = absurd (omega (arith, front (doneOn ws bytes) ws out (ltb-false (length out) (doneOn ws bytes .room) e) .gives, within .some, none))
+      go : (c : Bool) → eqb (cond {A = Answered} c (record { long = 0; words = ws; bytes = out }) (record { long = length (doneOn ws bytes .says); words = doneOn ws bytes .words; bytes = doneOn ws bytes .says ++ drop (length (doneOn ws bytes .says)) out }) .long) 0 ≡ c
+      go true = refl
+      go false = ne-eqb (length (doneOn ws bytes .says)) 0 (λ e. omega (arith, within .some))
+
+  -- so the room that is told beforehand is always enough
+  pub answered : (out : List ℕ) → roomFor bytes ≤ length out → 1 ≤ answerOn ws bytes out .long
+  answered out h = omega (arith, front (doneOn ws bytes) ws out (omega (arith, within .fits)) .gives, within .some)
+
+  -- and a message that is not answered changed nothing
+  pub unanswered : (out : List ℕ) → answerOn ws bytes out .long ≡ 0 → (answerOn ws bytes out .words ≡ ws) × (answerOn ws bytes out .bytes ≡ out)
+  unanswered out none =
+      let a = short (doneOn ws bytes) ws out (ltb-true (length out) (length (doneOn ws bytes .says)) (sym (twelve-exactly out) ∙ eq-eqb (answerOn ws bytes out .long) 0 none)) in
+      (sym (a .leaves), sym (a .writes))
+
+-- the first byte of what is said is that of the reply
+pub first-said : (says rest : List ℕ) → 1 ≤ length says → cond (eqb (length says) 0) 0 (getD (says ++ rest) 0 0) ≡ getD says 0 0
+first-said [] rest h = absurd (omega arith)
+first-said (x ∷ says) rest h = ap (λ (c : Bool). cond c 0 x) (ne-eqb (length (x ∷ says)) 0 (λ e. omega arith))
+
+-- a request whose reply is neither Taken nor gossip taken, refused, there already or a question, changes no word
+module _ (ws bytes : List ℕ) where
+  bad-keeps : badOn ws .words ≡ ws
+  bad-keeps = go (lawful ws) refl
+    where
+      go : (c : Bool) → lawful ws ≡ c → cond {A = Lent} c (record { reply = refusal 1; words = wordsOf (bookOf ws) }) (record { reply = refusal 11; words = ws }) .words ≡ ws
+      go true e = lawful-held ws (subst T (sym e) tt) .words
+      go false e = refl
+
+  off : {c d : Bool} → c ≡ d → d ≡ false → T (not c)
+  off e f = subst (λ (x : Bool). T (not x)) (sym (e ∙ f)) tt
+
+  abbrev firstOf : Done → ℕ
+  firstOf d = getD (d .says) 0 0
+
+  done-keeps : eqb (firstOf (doneOn ws bytes)) 5 ≡ false → eqb (firstOf (doneOn ws bytes)) 10 ≡ false → doneOn ws bytes .words ≡ ws
+  unfolding doneOn
+  done-keeps = go (eqb (kindIn bytes) 1) (eqb (kindIn bytes) 3) (eqb (kindIn bytes) 4) (readable sendKind bytes)
+    where
+      done : (gossip tap question send : Bool) → Done
+      done gossip tap question send =
+          cond gossip (doneBy (gossipOn ws bytes)) (cond tap (doneBy (tapOn ws bytes)) (cond question (doneBy (questionOn ws bytes)) (cond send (sendDone ws) (doneBy (badOn ws)))))
+
+      go : (gossip tap question send : Bool) → eqb (firstOf (done gossip tap question send)) 5 ≡ false → eqb (firstOf (done gossip tap question send)) 10 ≡ false → done gossip tap question send .words ≡ ws
+      go true tap question send e f = gossip-keeps ws bytes (off (sym (first-gossiped (gossipOn ws bytes .reply))) f)
+      go false true question send e f = tap-keeps ws bytes (off (sym (first-taken (tapOn ws bytes .reply))) e)
+      go false false true send e f = question-keeps ws bytes
+      go false false false true e f = refl
+      go false false false false e f = bad-keeps
+
+  pub answer-keeps : (out : List ℕ) → eqb (kindSaid (answerOn ws bytes out)) 5 ≡ false → eqb (kindSaid (answerOn ws bytes out)) 10 ≡ false → answerOn ws bytes out .words ≡ ws
+  unfolding answerBy
+  answer-keeps out = go (ltb (length out) (length says))
+    where
+      says : List ℕ
+      says = doneOn ws bytes .says
+
+      first : cond (eqb (length says) 0) 0 (getD (says ++ drop (length says) out) 0 0) ≡ getD says 0 0
+      first = first-said says (drop (length says) out) (within ws bytes .some)
+
+      given : Bool → Answered
+      given short = cond short (record { long = 0; words = ws; bytes = out }) (record { long = length says; words = doneOn ws bytes .words; bytes = says ++ drop (length says) out })
+
+      go : (short : Bool) → eqb (kindSaid (given short)) 5 ≡ false → eqb (kindSaid (given short)) 10 ≡ false → given short .words ≡ ws
+      go true e f = refl
+      go false e f = done-keeps (ap (λ (k : ℕ). eqb k 5) (sym first) ∙ e) (ap (λ (k : ℕ). eqb k 10) (sym first) ∙ f)
 
 -- two outcomes that both meet what answering promises are equal
 pub one-answer :

@@ -1,17 +1,21 @@
 // One whole message answered on a lent book, into a lent output; and the bytes that open a book.
 use answers::Reply;
 use answers::UNSOUND;
-use book::gossip;
+use book::gossip_stop;
 use book::open;
 use book::question;
 use book::send;
-use book::tap;
+use book::tap_stop;
+use gossiping::GossipStop;
+use gossiping::take_gossip;
 use layout::BOOK;
 use opening::Opening;
 use requests::read_open;
 use requests::read_send;
 use soundness::sound;
 use speech::speak;
+use taking::TapStop;
+use taking::take_tap;
 use wire::BAD;
 use wire::GOSSIP_TAKEN_BODY;
 use wire::HEAD;
@@ -27,14 +31,11 @@ use wire::TAP;
 use wire::VERDICT_BODY;
 use wire::Written;
 ghost use mathlib.Core.Path.{_≡_};
-ghost use mathlib.Core.List.{_++_};
-ghost use Prim.Native.Nat.{_≤_};
 ghost use lib.Dec.{T};
-ghost use lib.ListN.{length, drop};
-ghost use Rattle.answers.specs.Lent.{tapOn, questionOn, gossipOn};
+ghost use Rattle.answers.specs.Lent.{tapOn, questionOn, gossipOn, putFront};
 ghost use Rattle.answers.specs.Spoken.{spoken};
 ghost use Rattle.opening.specs.Opening.{Opens};
-ghost use Rattle.speech.specs.Speech.{bytesFor, sayable, tapLong, questionLong, gossipLong, refusalLong};
+ghost use Rattle.speech.specs.Speech.{bytesFor, sayable};
 ghost use Rattle.answering.specs.Answer.{doneBy, sendDone, badOn, otherDone, kindIn, answerBy, answerOn, Answers, roomFor, openFrom, longIn};
 
 // The longest replies to gossip, a tap and a question, and to bytes that are no request.
@@ -65,45 +66,61 @@ fn long_of(wrote: Written) -> usize
     }
 }
 
-// A reply at the front of an output that has room for it; how long it is.
+// A reply at the front of an output, and how long it is; 0 where the output is shorter, which then stays.
 fn put(reply: Reply, out: &mut [u8]) -> usize
     requires { ⌜ T (sayable (spoken reply)) ⌝ }
-    requires { ⌜ length (bytesFor (spoken reply)) ≤ length (now out) ⌝ }
-    ensures { λ r. ⌜ r ≡ length (bytesFor (spoken reply)) ⌝ }
-    ensures { λ _. ⌜ now (out .exit) ≡ bytesFor (spoken reply) ++ drop (length (bytesFor (spoken reply))) (now (out .entry)) ⌝ }
+    ensures { λ r. ⌜ r ≡ longIn (putFront (bytesFor (spoken reply)) (now (out .entry)) .answer) ⌝ }
+    ensures { λ _. ⌜ now (out .exit) ≡ putFront (bytesFor (spoken reply)) (now (out .entry)) .bytes ⌝ }
 {
     let wrote = speak(reply, out);
     long_of(wrote)
 }
 
+// What stops a tap is said; one that nothing stops is taken only where Taken has room.
 fn answer_tap(b: &mut [u64], msg: &[u8], out: &mut [u8]) -> usize
-    ensures { λ r. ⌜ Answers (answerBy (doneBy tapLong (tapOn (now (b .entry)) (now (msg .entry)))) (now (b .entry)) (now (out .entry))) r (now (b .exit)) (now (out .exit)) ⌝ }
+    ensures { λ r. ⌜ Answers (answerBy (doneBy (tapOn (now (b .entry)) (now (msg .entry)))) (now (b .entry)) (now (out .entry))) r (now (b .exit)) (now (out .exit)) ⌝ }
 {
-    if out.len() < TAP_ROOM {
-        return 0;
+    let stop = tap_stop(b, msg);
+    match stop {
+        TapStop::Stopped(reply) => put(reply, out),
+        TapStop::Clear { tap, label } => {
+            if out.len() < TAP_ROOM {
+                return 0;
+            }
+            let reply = take_tap(b, tap, label);
+            put(reply, out)
+        }
     }
-    let reply = tap(b, msg);
-    put(reply, out)
 }
 
 fn answer_question(b: &[u64], msg: &[u8], out: &mut [u8]) -> usize
-    ensures { λ r. ⌜ Answers (answerBy (doneBy questionLong (questionOn (now (b .entry)) (now (msg .entry)))) (now (b .entry)) (now (out .entry))) r (now (b .entry)) (now (out .exit)) ⌝ }
+    ensures { λ r. ⌜ Answers (answerBy (doneBy (questionOn (now (b .entry)) (now (msg .entry)))) (now (b .entry)) (now (out .entry))) r (now (b .entry)) (now (out .exit)) ⌝ }
 {
-    if out.len() < QUESTION_ROOM {
-        return 0;
-    }
     let reply = question(b, msg);
     put(reply, out)
 }
 
+// What stops a gossip is said; one that nothing stops is taken only where its reply has room.
 fn answer_gossip(b: &mut [u64], msg: &[u8], out: &mut [u8]) -> usize
-    ensures { λ r. ⌜ Answers (answerBy (doneBy gossipLong (gossipOn (now (b .entry)) (now (msg .entry)))) (now (b .entry)) (now (out .entry))) r (now (b .exit)) (now (out .exit)) ⌝ }
+    ensures { λ r. ⌜ Answers (answerBy (doneBy (gossipOn (now (b .entry)) (now (msg .entry)))) (now (b .entry)) (now (out .entry))) r (now (b .exit)) (now (out .exit)) ⌝ }
 {
-    if out.len() < GOSSIP_ROOM {
-        return 0;
+    let stop = gossip_stop(b, msg);
+    match stop {
+        GossipStop::Stopped(reply) => put(reply, out),
+        GossipStop::Clear {
+            sender,
+            screens,
+            count,
+            stamp,
+            new,
+        } => {
+            if out.len() < GOSSIP_ROOM {
+                return 0;
+            }
+            let reply = take_gossip(b, msg, sender, screens, count, stamp, new);
+            put(reply, out)
+        }
     }
-    let reply = gossip(b, msg);
-    put(reply, out)
 }
 
 fn answer_send(b: &[u64], out: &mut [u8]) -> usize
@@ -116,20 +133,14 @@ fn answer_send(b: &[u64], out: &mut [u8]) -> usize
             if number == SHORT {
                 return 0;
             }
-            if out.len() < REFUSAL_ROOM {
-                return 0;
-            }
             put(Reply::Refused(number), out)
         }
     }
 }
 
 fn answer_bad(b: &[u64], out: &mut [u8]) -> usize
-    ensures { λ r. ⌜ Answers (answerBy (doneBy refusalLong (badOn (now (b .entry)))) (now (b .entry)) (now (out .entry))) r (now (b .entry)) (now (out .exit)) ⌝ }
+    ensures { λ r. ⌜ Answers (answerBy (doneBy (badOn (now (b .entry)))) (now (b .entry)) (now (out .entry))) r (now (b .entry)) (now (out .exit)) ⌝ }
 {
-    if out.len() < REFUSAL_ROOM {
-        return 0;
-    }
     if !sound(b) {
         return put(Reply::Refused(UNSOUND), out);
     }
@@ -147,7 +158,7 @@ fn answer_other(b: &[u64], msg: &[u8], out: &mut [u8]) -> usize
     answer_send(b, out)
 }
 
-// The reply to one whole message of kind 1, 3, 4 or 12 at the front of out, and how long it is; 0 where out is too short for it.
+// The reply to one whole message of kind 1, 3, 4 or 12 at the front of out, and how long it is; 0 where out is shorter than it.
 pub fn answer(b: &mut [u64], msg: &[u8], out: &mut [u8]) -> usize
     ensures { λ r. ⌜ Answers (answerOn (now (b .entry)) (now (msg .entry)) (now (out .entry))) r (now (b .exit)) (now (out .exit)) ⌝ }
 {

@@ -1,5 +1,5 @@
 -- Laws: what a reply's first byte tells. Assumes nothing.
---     first-taken                             it is 5 exactly where the reply is Taken
+--     first-taken, first-gossiped             it is 5 exactly where the reply is Taken, 10 where gossip is taken
 --     first-no-head, first-head               it is never 1, which a gossip message's is
 --     question-not-taken, gossip-not-taken    no question and no gossip is answered with Taken
 use Prim.Native.Nat.{ℕ}
@@ -21,7 +21,7 @@ use Rattle.gossip.specs.Message as gossip
 use Rattle.gossip.specs.Message.{headOf, wellFormed, messageOf}
 use Rattle.ledger.specs.Message.{Message}
 use Rattle.meaning.specs.Book.{Book, standingAt}
-use Rattle.meaning.specs.Reply.{Reply, taken, already, verdict, wait, refusal, gossiped, figures, isTaken}
+use Rattle.meaning.specs.Reply.{Reply, taken, already, verdict, wait, refusal, gossiped, figures, isTaken, isGossiped}
 use Rattle.meaning.specs.Step.{Outcome, stopOr, askStops, answerOf, ask, gossipStops, gossipStep}
 use Rattle.layout.specs.Words.{bookOf, wordsOf, lawful}
 use Rattle.answers.specs.Lent.{Lent, onBook, heard, hearQuestion, questionOn, hearGossip, gossipOn}
@@ -35,6 +35,15 @@ first-taken (verdict v h a d s) = refl
 first-taken (wait bits) = refl
 first-taken (refusal k) = refl
 first-taken (gossiped new applied) = refl
+
+pub first-gossiped : (r : Reply) → eqb (getD (bytesFor r) 0 0) 10 ≡ isGossiped r
+unfolding bytesFor written bytesOf figures takenKind alreadyKind verdictKind waitKind refusalKind gossipTakenKind
+first-gossiped (taken s) = refl
+first-gossiped (already s) = refl
+first-gossiped (verdict v h a d s) = refl
+first-gossiped (wait bits) = refl
+first-gossiped (refusal k) = refl
+first-gossiped (gossiped new applied) = refl
 
 pub first-no-head : (r : Reply) → eqb (getD (bytesFor r) 0 0) 1 ≡ false
 unfolding bytesFor written bytesOf figures takenKind alreadyKind verdictKind waitKind refusalKind gossipTakenKind

@@ -2,7 +2,7 @@
 --     said-figures                                an answer's values are those of the message that says it
 --     say-said                                    so writing an answer is writing that message
 --     reply-long                                  a reply's bytes are as many as its kind has
---     says-front                                  with room for it, a reply stands at the output's front
+--     says-put                                    a reply stands at the output's front, or 12 where the output is shorter
 --     tap-says, question-says, gossip-says        every reply of an operation can be written, whatever the words and the bytes
 --     open-says                                   and so can open's refusals
 --     tap-long, question-long, gossip-long        and how long it is at most
@@ -12,7 +12,6 @@ use mathlib.Core.Path.{_≡_, refl, sym, ap, subst, _∙_}
 use mathlib.Core.Bool.{Bool, true, false, not, _&&_, _||_, cond}
 use mathlib.Core.List.{List, [], _∷_, _++_}
 use mathlib.Core.Option.{Option, none, some}
-use borrow.Author.Tests.{le-ltb}
 use lib.Dec.{T, eqb, ltb, leb, lt→ltb, le→leb, leb→le}
 use lib.ListN.{length, getD, drop, replicate}
 use Rattle.lists.specs.Facts.{_∈_, here, there, either, clash, is-true, and-l, and-r, both, every-at, keep-le, keep-mem}
@@ -43,7 +42,6 @@ use Rattle.wire.specs.Laws.{length-written}
 use Rattle.wire.specs.Read.{lineOf, readable}
 use Rattle.wire.specs.Said as wire
 use Rattle.wire.specs.Write.{writable, writeAs}
-use Rattle.wire.specs.declared.Written.the-variants.{Wrote}
 use Rattle.gossip.specs.Message.{wellFormed, messageOf}
 use Rattle.meaning.specs.AnswerLaws.{answered-done}
 use Rattle.meaning.specs.Book.{Book, known, holds, standingAt, fresh}
@@ -53,7 +51,7 @@ use Rattle.meaning.specs.Step.{Outcome, stopOr, openStops, newRecord, firstStam
 use Rattle.meaning.specs.StepLaws.{TapDone, tap-out, tap-cases, GossipDone, gossip-cases}
 use Rattle.layout.specs.SoundWords.{lawful-sound}
 use Rattle.layout.specs.Words.{bookLong, bookOf, wordsOf, lawful}
-use Rattle.answers.specs.Lent.{Lent, onBook, heard, hearTap, tapOn, hearQuestion, questionOn, hearGossip, gossipOn, openOr, openOn}
+use Rattle.answers.specs.Lent.{Lent, onBook, heard, hearTap, tapOn, hearQuestion, questionOn, hearGossip, gossipOn, putFront, openOr, openOn}
 use Rattle.answers.specs.Spoken.{spoken}
 use Rattle.answers.specs.declared.Reply as answer
 use Rattle.answers.specs.declared.Reply.the-variants as says
@@ -88,11 +86,10 @@ bytes-long r t = length-written (kindOf r) (figures r) t
 pub reply-long : (r : Reply) → T (sayable r) → length (bytesFor r) ≡ longOf r
 reply-long r t = bytes-long r t ∙ kind-long r
 
-pub says-front :
-    (r : Reply) (out : List ℕ) → T (sayable r) → length (bytesFor r) ≤ length out
-    → sayOn r out ≡ record { answer = Wrote (length (bytesFor r)); bytes = bytesFor r ++ drop (length (bytesFor r)) out }
+-- a reply that can be said stands at the front of an output that has room for it, and 12 is given exactly where it has not
+pub says-put : (r : Reply) (out : List ℕ) → T (sayable r) → sayOn r out ≡ putFront (bytesFor r) out
 unfolding sayOn writeAs bytesFor
-says-front r out t h = rw (bytes-long r t, is-true (sayable r) t, le-ltb (length out) (size (kindOf r)) (omega (arith, bytes-long r t)))
+says-put r out t = rw (bytes-long r t, is-true (sayable r) t)
 
 -- a reply that can be written in so many bytes
 abbrev within : ℕ → Reply → Bool

@@ -1,30 +1,26 @@
--- `answering::answer_question` meets its contract. Assumes nothing.
-use Rattle.answers.specs.Lent.{questionOn}
-use Rattle.speech.specs.Speech.{questionLong}
-use Rattle.speech.specs.SpeechLaws.{question-says, question-long}
-use Rattle.answering.specs.Answer.{doneBy}
-use Rattle.answering.specs.AnswerLaws.{short}
-use Rattle.answering.proofs.Owes.{ready, owes}
 use borrow.Author.Needs.{needs}
 use Rattle.answering.proofs.answer_question.Statement.{statement}
 use Rattle.answering.proofs.answer_question.Tie as tie
+use Rattle.answering.proofs.answer_question.Reads as reads
+use Rattle.answering.proofs.answer_question.Lts as lts
+use Rattle.answering.proofs.put.Reads as put-reads
+use Rattle.book.proofs.question.Reads as question-reads
 
-returns : tie.Need-returns
-returns c =
-    let s = c .before .before .before .before .args in
-    short (doneBy questionLong (questionOn (s .b .now) (s .msg .now))) (s .b .now) (s .out .now) (c .if1 .taken)
+-- src/lib.rt:99:9
+question-requires : tie.Need-question-requires
+question-requires c κs = search needs
 
+-- src/lib.rt:100:5
 put-requires : tie.Need-put-requires
-put-requires c κs =
-    let s = c .before .before .before .before .before .before .args in
-    ready questionLong (questionOn (s .b .now) (s .msg .now)) (s .out .now) _ _ (c .before .question .ensures) (c .before .before .if1 .left) (question-says (s .b .now) (s .msg .now))
-    (question-long (s .b .now) (s .msg .now))
+put-requires c κs = search needs
 
-returns-2 : tie.Need-returns-2
-returns-2 c =
-    let s = c .before .before .before .before .before .before .before .before .before .args in
-    let p = c .before .before .put .ensures in
-    owes questionLong (questionOn (s .b .now) (s .msg .now)) (s .out .now) _ _ (c .before .before .before .before .question .ensures) (c .before .before .before .before .before .if1 .left) (s .b .now) _ _ (p .0) (p .1)
+-- src/lib.rt:96:1
+same-length : tie.Need-same-length
+same-length c = search needs
+
+-- src/lib.rt:96:1
+returns : tie.Need-returns
+returns c = search needs
 
 pub answer-question-spec : {M : Type 1} → statement M
-answer-question-spec = tie.close (tie.spec returns (λ c κs. search needs) put-requires (λ c. search needs) returns-2)
+answer-question-spec = tie.close (tie.spec question-requires put-requires same-length returns)

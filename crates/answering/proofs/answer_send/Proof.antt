@@ -1,48 +1,62 @@
--- `answering::answer_send` meets its contract. Assumes nothing.
-use Rattle.answering.proofs.Owes.{send-wrote, send-short, send-no-room, send-ready, send-owes}
 use borrow.Author.Needs.{needs}
 use Rattle.answering.proofs.answer_send.Statement.{statement}
 use Rattle.answering.proofs.answer_send.Tie as tie
+use Rattle.answering.proofs.answer_send.Reads as reads
+use Rattle.answering.proofs.answer_send.Lts as lts
+use Rattle.answering.proofs.put.Reads as put-reads
+use Rattle.book.proofs.send.Reads as send-reads
 
+-- src/lib.rt:129:9
+send-requires : tie.Need-send-requires
+send-requires c κs = search needs
+
+-- src/lib.rt:131:24
+enum-known-wrote : tie.Need-enum-known-wrote
+enum-known-wrote c = search needs
+
+-- src/lib.rt:132:26
+enum-known-wrote-2 : tie.Need-enum-known-wrote-2
+enum-known-wrote-2 c = search needs
+
+-- src/lib.rt:134:17
+same-length : tie.Need-same-length
+same-length c = search needs
+
+-- src/lib.rt:134:17
 returns : tie.Need-returns
-returns c =
-    let s = c .before .before .before .before .before .before .before .before .before .before .args in
-    send-short (s .b .now) (s .out .now) _ _ _ (c .before .before .wrote2 .given .1) (c .before .before .before .before .before .before .send .ensures) (c .if1 .taken)
+returns c = search needs
 
-returns-2 : tie.Need-returns-2
-returns-2 c =
-    let s = c .before .before .before .before .before .before .before .before .before .before .before .args in
-    send-no-room (s .b .now) (s .out .now) _ _ _ (c .before .before .before .wrote2 .given .1) (c .before .before .before .before .before .before .before .send .ensures) (c .before .if1 .left) (c .if2 .taken)
-
+-- src/lib.rt:136:13
 put-requires : tie.Need-put-requires
-put-requires c κs =
-    let s = c .before .before .before .before .before .before .before .before .before .before .before .before .args in
-    send-ready (s .b .now) (s .out .now) _ _ _ (c .before .before .before .before .wrote2 .given .1) (c .before .before .before .before .before .before .before .before .send .ensures) (c .before .before .if1 .left) (c .before .if2 .left)
+put-requires c κs = search needs
 
+-- src/lib.rt:126:1
+same-length-2 : tie.Need-same-length-2
+same-length-2 c = search needs
+
+-- src/lib.rt:126:1
+returns-2 : tie.Need-returns-2
+returns-2 c = search needs
+
+-- src/lib.rt:126:1
+same-length-3 : tie.Need-same-length-3
+same-length-3 c = search needs
+
+-- src/lib.rt:126:1
 returns-3 : tie.Need-returns-3
-returns-3 c =
-    let s = c .before .before .before .before .before .before .before .before .before .args in
-    send-wrote (s .b .now) (s .out .now) _ _ _ (c .before .wrote .given .1) (c .before .before .before .before .before .send .ensures)
-
-returns-4 : tie.Need-returns-4
-returns-4 c =
-    let s = c .before .before .before .before .before .before .before .before .before .before .before .before .before .before .before .args in
-    let p = c .before .before .put .ensures in
-    send-owes (s .b .now) (s .out .now) _ _ _ (c .before .before .before .before .before .before .before .wrote2 .given .1) (c .before .before .before .before .before .before .before .before .before .before .before .send .ensures) (c .before .before .before .before .before .if1 .left) (c .before .before .before .before .if2 .left) _ _ (p .0) (p .1)
+returns-3 c = search needs
 
 pub answer-send-spec : {M : Type 1} → statement M
 answer-send-spec =
     tie.close
     (tie.spec
-    (λ c κs. search needs)
-    (λ c. search needs)
-    (λ c. search needs)
-    (λ c. search needs)
+    send-requires
+    enum-known-wrote
+    enum-known-wrote-2
+    same-length
     returns
-    (λ c. search needs)
-    returns-2
     put-requires
-    (λ c. search needs)
-    returns-3
-    (λ c. search needs)
-    returns-4)
+    same-length-2
+    returns-2
+    same-length-3
+    returns-3)
