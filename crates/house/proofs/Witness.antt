@@ -62,7 +62,7 @@ no-run =
     (sends 2 (omega arith)))
     (arrives 1 (omega arith) (send (tapped2 .book 2)) here)
 
--- yes on screen 1 at the label of the accept, and at a label of zeros
+-- yes on screen 1 where the label is the accept's stamp, and where it is zeros
 pub yes-said : T (permits (answerAt yesHouse 1 7 (at 1 0 0))) × T (permits (answerAt yesHouse 1 7 (at 0 0 0)))
 unfolding says tapped childs openHouse put grown afterTap afterQuestion afterSend afterGossip tapped0 asked0 sent0 yesHouse
 yes-said = (tt, tt)
