@@ -1,7 +1,7 @@
 -- Laws: a request that is stopped answers by its stop and changes neither book nor output, and one that is not is done. Assumes nothing.
 use Prim.Native.Nat.{ℕ}
 use native.Mathlib.Omega.{arith}
-use mathlib.Core.Path.{_≡_, refl, sym, ap, subst, _∙_}
+use mathlib.Core.Path.{Path, _≡_, refl, sym, ap, subst, _∙_}
 use mathlib.Core.Bool.{Bool, true, false, not, cond}
 use mathlib.Core.List.{List, _++_}
 use mathlib.Core.Option.{Option, none, some, Option·some-injective, Option·some-ne-none, Option·none-ne-some}
@@ -21,43 +21,41 @@ use Rattle.meaning.specs.Step.{Outcome, stopOr, openStops, tapStops, tapStep, a
 use Rattle.meaning.specs.StepLaws.{tap-out, gossip-out}
 use Rattle.layout.specs.SoundWords.{lawful-held}
 use Rattle.layout.specs.Words.{bookLong, bookOf, wordsOf, lawful}
-use Rattle.answers.specs.Lent.{Lent, onBook, heard, stopOn, tapStop, tapOn, promptIn, labelIn, hearQuestion, questionOn, gossipStop, gossipOn, sendOn, openOr, openOn}
+use Rattle.answers.specs.Lent.{Lent, heard, stopOn, tapStop, tapOn, promptIn, labelIn, questionOn, gossipStop, gossipOn, sendOn, openOr, openOn}
 use Rattle.answers.specs.LentLaws.{lentOf}
 
+-- the words of a lawful slice are those of the book that it holds
+held : (ws : List ℕ) → lawful ws ≡ true → wordsOf (bookOf ws) ≡ ws
+held ws e = lawful-held ws (subst T (sym e) tt) .words
+
+-- what a request comes to, by whether the slice is lawful, whether the bytes are readable, and what stops the step
 module _ (ws : List ℕ) (done : Outcome) where
-  -- what a request comes to when its bytes are readable or not, and the step is stopped or done
-  abbrev comes : Bool → Option Reply → Lent
-  comes c stop = onBook ws (heard c (bookOf ws) (stopOr (bookOf ws) done stop))
+  abbrev comes : Bool → Bool → Option Reply → Lent
+  comes l c stop = cond l (lentOf (heard c (bookOf ws) (stopOr (bookOf ws) done stop))) (record { reply = refusal 11; words = ws })
 
-  stopped : (c : Bool) (stop : Option Reply) (r : Reply) → stopOn ws c stop ≡ some r → comes c stop ≡ record { reply = r; words = ws }
-  stopped c stop r e = go (lawful ws) refl c stop e
-    where
-      kept : (x : Reply) (w : List ℕ) → w ≡ ws → _≡_ {A = Option Reply} (some x) (some r) → _≡_ {A = Lent} (record { reply = x; words = w }) (record { reply = r; words = ws })
-      kept x w p q = let s : x ≡ r = Option·some-injective x r q in λ j. record { reply = s j; words = p j }
+  kept :
+      (x r : Reply) (w : List ℕ) → w ≡ ws → Path (Option Reply) (some x) (some r)
+      → Path Lent (record { reply = x; words = w }) (record { reply = r; words = ws })
+  kept x r w p q = let s : x ≡ r = Option·some-injective x r q in λ j. record { reply = s j; words = p j }
 
-      go :
-          (l : Bool) → lawful ws ≡ l → (c : Bool) (stop : Option Reply) → cond l (cond c stop (some (refusal 1))) (some (refusal 11)) ≡ some r
-          → cond l (lentOf (heard c (bookOf ws) (stopOr (bookOf ws) done stop))) (record { reply = refusal 11; words = ws }) ≡ record { reply = r; words = ws }
-      go false l c stop e = kept (refusal 11) ws refl e
-      go true l false stop e = kept (refusal 1) (wordsOf (bookOf ws)) (lawful-held ws (subst T (sym l) tt) .words) e
-      go true l true none e = absurd (Option·none-ne-some r e)
-      go true l true (some x) e = kept x (wordsOf (bookOf ws)) (lawful-held ws (subst T (sym l) tt) .words) e
+  stopped :
+      (l : Bool) → lawful ws ≡ l → (c : Bool) (stop : Option Reply) (r : Reply) → stopOn l c stop ≡ some r
+      → comes l c stop ≡ record { reply = r; words = ws }
+  stopped false e c stop r s = kept (refusal 11) r ws refl s
+  stopped true e false stop r s = kept (refusal 1) r (wordsOf (bookOf ws)) (held ws e) s
+  stopped true e true none r s = absurd (Option·none-ne-some r s)
+  stopped true e true (some x) r s = kept x r (wordsOf (bookOf ws)) (held ws e) s
 
-  clear : (c : Bool) (stop : Option Reply) → stopOn ws c stop ≡ none → comes c stop ≡ lentOf done
-  clear c stop e = go (lawful ws) c stop e
-    where
-      go :
-          (l c : Bool) (stop : Option Reply) → cond l (cond c stop (some (refusal 1))) (some (refusal 11)) ≡ none
-          → cond l (lentOf (heard c (bookOf ws) (stopOr (bookOf ws) done stop))) (record { reply = refusal 11; words = ws }) ≡ lentOf done
-      go false c stop e = absurd (Option·some-ne-none (refusal 11) e)
-      go true false stop e = absurd (Option·some-ne-none (refusal 1) e)
-      go true true none e = refl
-      go true true (some x) e = absurd (Option·some-ne-none x e)
+  clear : (l c : Bool) (stop : Option Reply) → stopOn l c stop ≡ none → comes l c stop ≡ lentOf done
+  clear false c stop s = absurd (Option·some-ne-none (refusal 11) s)
+  clear true false stop s = absurd (Option·some-ne-none (refusal 1) s)
+  clear true true none s = refl
+  clear true true (some x) s = absurd (Option·some-ne-none x s)
 
 -- a request that is not done was stopped
 not-done :
-    (ws : List ℕ) (o : Lent) (done : Bool) (stop : Option Reply) → ((r : Reply) → stop ≡ some r → o ≡ record { reply = r; words = ws }) → (stop ≡ none → T done)
-    → T (not done) → o .words ≡ ws
+    (ws : List ℕ) (o : Lent) (done : Bool) (stop : Option Reply)
+    → ((r : Reply) → stop ≡ some r → o ≡ record { reply = r; words = ws }) → (stop ≡ none → T done) → T (not done) → o .words ≡ ws
 not-done ws o done (some r) s c n = ap (λ (x : Lent). x .words) (s r refl)
 not-done ws o done none s c n = clash done (c refl) n
 
@@ -69,18 +67,21 @@ module _ (ws bytes : List ℕ) where
   abbrev taken : Outcome
   taken = tap-out (bookOf ws) (tapAt 1 line) (stampAt 6 line)
 
-  abbrev stops : Option Reply
-  stops = firstOf (tapStops (bookOf ws) (tapAt 1 line) (stampAt 6 line))
+  abbrev isTap : Bool
+  isTap = readable (tapKind (bookOf ws .screens)) bytes
+
+  abbrev tapBy : Option Reply
+  tapBy = firstOf (tapStops (bookOf ws) (tapAt 1 line) (stampAt 6 line))
 
   -- what stops a tap, Already too, is the answer, and no word changes
   pub tap-stopped : (r : Reply) → tapStop ws bytes ≡ some r → tapOn ws bytes ≡ record { reply = r; words = ws }
   unfolding tapStop tapOn tapStep
-  tap-stopped r e = stopped ws taken (readable (tapKind (bookOf ws .screens)) bytes) stops r e
+  tap-stopped r s = stopped ws taken (lawful ws) refl isTap tapBy r s
 
   -- a tap that nothing stops is taken
   pub tap-clear : tapStop ws bytes ≡ none → T (isTaken (tapOn ws bytes .reply))
   unfolding tapStop tapOn tapStep
-  tap-clear e = subst (λ (o : Lent). T (isTaken (o .reply))) (sym (clear ws taken (readable (tapKind (bookOf ws .screens)) bytes) stops e)) tt
+  tap-clear s = subst (λ (o : Lent). T (isTaken (o .reply))) (sym (clear ws taken (lawful ws) isTap tapBy s)) tt
 
   -- a tap that is not taken, refused or there already, changes no word
   pub tap-keeps : T (not (isTaken (tapOn ws bytes .reply))) → tapOn ws bytes .words ≡ ws
@@ -91,43 +92,47 @@ module _ (ws bytes : List ℕ) where
   abbrev told : Outcome
   told = gossip-out (bookOf ws) (messageOf bytes)
 
+  abbrev gossipBy : Option Reply
+  gossipBy = firstOf (gossipStops (bookOf ws) (messageOf bytes))
+
   -- what stops gossip is the answer, and no word changes
   pub gossip-stopped : (r : Reply) → gossipStop ws bytes ≡ some r → gossipOn ws bytes ≡ record { reply = r; words = ws }
   unfolding gossipStop gossipOn gossipStep
-  gossip-stopped r e = stopped ws told (wellFormed bytes) (firstOf (gossipStops (bookOf ws) (messageOf bytes))) r e
+  gossip-stopped r s = stopped ws told (lawful ws) refl (wellFormed bytes) gossipBy r s
 
   -- gossip that nothing stops is taken
   pub gossip-clear : gossipStop ws bytes ≡ none → T (isGossiped (gossipOn ws bytes .reply))
   unfolding gossipStop gossipOn gossipStep
-  gossip-clear e =
-      subst (λ (o : Lent). T (isGossiped (o .reply))) (sym (clear ws told (wellFormed bytes) (firstOf (gossipStops (bookOf ws) (messageOf bytes))) e)) tt
+  gossip-clear s = subst (λ (o : Lent). T (isGossiped (o .reply))) (sym (clear ws told (lawful ws) (wellFormed bytes) gossipBy s)) tt
 
   -- gossip that is refused changes no word
   pub gossip-keeps : T (not (isGossiped (gossipOn ws bytes .reply))) → gossipOn ws bytes .words ≡ ws
-  gossip-keeps n = not-done ws (gossipOn ws bytes) (isGossiped (gossipOn ws bytes .reply)) (gossipStop ws bytes) gossip-stopped gossip-clear n
+  gossip-keeps n =
+      not-done ws (gossipOn ws bytes) (isGossiped (gossipOn ws bytes .reply)) (gossipStop ws bytes) gossip-stopped gossip-clear n
 
 -- a question changes no word
 pub question-keeps : (ws bytes : List ℕ) → questionOn ws bytes .words ≡ ws
 unfolding questionOn
-question-keeps ws bytes = go (lawful ws) refl
+question-keeps ws bytes = go (lawful ws) refl (readable (questionKind (bookOf ws .screens)) bytes)
   where
     asked : Outcome
     asked = ask (bookOf ws) (promptIn ws bytes) (labelIn ws bytes)
 
-    kept : (c : Bool) → heard c (bookOf ws) asked .book ≡ bookOf ws
-    kept true = ask-keeps (bookOf ws) (promptIn ws bytes) (labelIn ws bytes)
-    kept false = refl
-
-    go : (c : Bool) → lawful ws ≡ c → cond c (lentOf (hearQuestion (bookOf ws) bytes)) (record { reply = refusal 11; words = ws }) .words ≡ ws
-    go true e = ap wordsOf (kept (readable (questionKind (bookOf ws .screens)) bytes)) ∙ lawful-held ws (subst T (sym e) tt) .words
-    go false e = refl
+    go :
+        (l : Bool) → lawful ws ≡ l → (c : Bool)
+        → cond l (lentOf (heard c (bookOf ws) asked)) (record { reply = refusal 11; words = ws }) .words ≡ ws
+    go false e c = refl
+    go true e false = held ws e
+    go true e true = ap wordsOf (ask-keeps (bookOf ws) (promptIn ws bytes) (labelIn ws bytes)) ∙ held ws e
 
 -- an open that is refused changes no word
 pub open-keeps : (ws : List ℕ) (i n : ℕ) (r : Reply) → openOn ws i n .refused ≡ some r → openOn ws i n .words ≡ ws
 unfolding openOn
 open-keeps ws i n r e = go (firstOf (openStops (eqb (length ws) bookLong) i n)) e
   where
-    go : (stop : Option Reply) → openOr ws (wordsOf (fresh i n)) stop .refused ≡ some r → openOr ws (wordsOf (fresh i n)) stop .words ≡ ws
+    go :
+        (stop : Option Reply) → openOr ws (wordsOf (fresh i n)) stop .refused ≡ some r
+        → openOr ws (wordsOf (fresh i n)) stop .words ≡ ws
     go (some x) e = refl
     go none e = absurd (Option·none-ne-some r e)
 
@@ -139,10 +144,12 @@ send-keeps ws out k e = go (lawful ws) (ltb (length out) (length message)) e
     message : List ℕ
     message = bytesOf (send (bookOf ws))
 
-    sent : Bool → Bool → Output
-    sent l short = cond l (cond short (refuse 12 out) (record { answer = Wrote (length message); bytes = message ++ drop (length message) out })) (refuse 11 out)
+    wrote : Output
+    wrote = record { answer = Wrote (length message); bytes = message ++ drop (length message) out }
 
-    go : (l short : Bool) → (sent l short) .answer ≡ Refused k → (sent l short) .bytes ≡ out
+    go :
+        (l short : Bool) → cond l (cond short (refuse 12 out) wrote) (refuse 11 out) .answer ≡ Refused k
+        → cond l (cond short (refuse 12 out) wrote) (refuse 11 out) .bytes ≡ out
     go false short e = refl
     go true true e = refl
     go true false e = let z : _≡_ {A = ℕ} 0 1 = cc in absurd (omega arith)

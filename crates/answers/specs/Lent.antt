@@ -1,4 +1,4 @@
--- What each operation answers and leaves, of a lent slice of words and the bytes of a message. Assumes nothing.
+-- What each operation answers and leaves, and what stops it, of a lent slice of words and the bytes of a message. Assumes nothing.
 use Prim.Native.Nat.{ℕ}
 use mathlib.Core.Path.{_≡_}
 use mathlib.Core.Bool.{Bool, cond}
@@ -39,8 +39,8 @@ abbrev pub heard : Bool → Book → Outcome → Outcome
 heard readable b o = cond readable o (record { reply = refusal 1; book = b })
 
 -- what stops a request, judged before any word changes: 11, then 1, then the first of the step's own stops
-abbrev pub stopOn : List ℕ → Bool → Option Reply → Option Reply
-stopOn ws readable stop = cond (lawful ws) (cond readable stop (some (refusal 1))) (some (refusal 11))
+abbrev pub stopOn : Bool → Bool → Option Reply → Option Reply
+stopOn lawful readable stop = cond lawful (cond readable stop (some (refusal 1))) (some (refusal 11))
 
 abbrev pub hearTap : Book → List ℕ → Outcome
 hearTap b bytes = let k = tapKind (b .screens) in heard (readable k bytes) b (tapStep b (tapAt 1 (lineOf k bytes)) (stampAt 6 (lineOf k bytes)))
@@ -51,7 +51,7 @@ tapOn ws bytes = onBook ws (hearTap (bookOf ws) bytes)
 unfoldable pub tapStop : List ℕ → List ℕ → Option Reply
 tapStop ws bytes =
     let k = tapKind (bookOf ws .screens) in
-    stopOn ws (readable k bytes) (firstOf (tapStops (bookOf ws) (tapAt 1 (lineOf k bytes)) (stampAt 6 (lineOf k bytes))))
+    stopOn (lawful ws) (readable k bytes) (firstOf (tapStops (bookOf ws) (tapAt 1 (lineOf k bytes)) (stampAt 6 (lineOf k bytes))))
 
 -- the prompt and the label that a question's bytes hold
 abbrev pub promptIn : List ℕ → List ℕ → ℕ
@@ -73,7 +73,7 @@ unfoldable pub gossipOn : List ℕ → List ℕ → Lent
 gossipOn ws bytes = onBook ws (hearGossip (bookOf ws) bytes)
 
 unfoldable pub gossipStop : List ℕ → List ℕ → Option Reply
-gossipStop ws bytes = stopOn ws (wellFormed bytes) (firstOf (gossipStops (bookOf ws) (messageOf bytes)))
+gossipStop ws bytes = stopOn (lawful ws) (wellFormed bytes) (firstOf (gossipStops (bookOf ws) (messageOf bytes)))
 
 -- send: 11, then 12; the message at the front of the output, the rest of which stays; the book does not change
 abbrev pub putFront : List ℕ → List ℕ → Output

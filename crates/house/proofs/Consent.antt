@@ -45,22 +45,29 @@ module _ (n : ℕ) (h : House) (v : Inv n h) (i : ℕ) (u : i < n) where
   in-taps t a = mem-taps-applied (known b) (h .history) (a .from) t (a .taken) (a .applied) (a .says)
 
   -- an applied decline that is not below the answered showing would be counted at it
-  applied-below : (p : ℕ) (l : Stamp) → Permitted b p l → (t : Tap) → Applied h i t → t .prompt ≡ p → t .answer ≡ decline → t .showing < showingOf (answerAt h i p l)
+  applied-below :
+      (p : ℕ) (l : Stamp) → Permitted b p l → (t : Tap) → Applied h i t → t .prompt ≡ p → t .answer ≡ decline
+      → t .showing < showingOf (answerAt h i p l)
   applied-below p l y t a e f =
       either (tell (ltb (t .showing) ((standing taps p) .showing)))
       (λ less. omega (arith, ltb→lt (t .showing) ((standing taps p) .showing) less, y .shown, ap (λ (s : Standing). s .showing) same))
-      (λ more. absurd (omega (arith, decline-counted taps p t (in-taps t a) e (top more) f, accepted-only (standingAt b p) (y .yes) .1, ap (λ (s : Standing). s .declines) same)))
+      (λ more. absurd (omega (arith, decline-counted taps p t (in-taps t a) e (top more) f, none-declined, ap (λ (s : Standing). s .declines) same)))
     where
       same : standingAt b p ≡ standing taps p
       same = fresh-counts n h v i u p (y .asked .prompt-in)
+
+      none-declined : (standingAt b p) .declines ≡ 0
+      none-declined = accepted-only (standingAt b p) (y .yes) .1
 
       top : T (not (ltb (t .showing) ((standing taps p) .showing))) → t .showing ≡ (standing taps p) .showing
       top more = omega (arith, nltb→le (t .showing) ((standing taps p) .showing) more, standing-over taps p t (in-taps t a) e)
 
   -- a record that the label covers is applied, since the value stamp covers the label
-  label-applied : (p : ℕ) (l : Stamp) → Permitted b p l → (r : Record) → r ∈ h .history → T (atMost (stampOf r) l) → T (isApplied (known b) r)
+  label-applied :
+      (p : ℕ) (l : Stamp) → Permitted b p l → (r : Record) → r ∈ h .history → T (atMost (stampOf r) l) → T (isApplied (known b) r)
   label-applied p l y r m c =
-      covered-is-applied n h v i u r m (λ k. omega (arith, atMost-parts (stampOf r) l c k, y .asked .covered k, y .asked .sound-before .value-known k))
+      covered-is-applied n h v i u r m
+      (λ k. omega (arith, atMost-parts (stampOf r) l c k, y .asked .covered k, y .asked .sound-before .value-known k))
 
   yes-was-tapped : (p : ℕ) (l : Stamp) → Permitted b p l → (t : Tap) × Applied h i t × (t .prompt ≡ p) × (t .answer ≡ accept) × (t .showing ≡ showingOf (answerAt h i p l))
   yes-was-tapped p l y = go (accept-there taps p (omega (arith, accepted-only (standingAt b p) (y .yes) .0, ap (λ (s : Standing). s .accepts) same)))

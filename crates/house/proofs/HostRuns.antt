@@ -109,9 +109,12 @@ module _ (n : ℕ) (h : LentHouse) (i : ℕ) (u : i < n) (bytes out : List ℕ) 
   by-gossip s = go (wellFormed bytes) refl
     where
       go : (c : Bool) → wellFormed bytes ≡ c → Goes (after (fronted (doneBy gossipLong (gossipOn ws bytes))))
-      go true w = subst Goes (sym (by-reply gossipLong (gossipOn ws bytes) false (gossip-not-taken ws bytes) s [])) (inl (arrives i u bytes (from (subst T (sym w) tt))))
+      go true w =
+          subst Goes (sym (by-reply gossipLong (gossipOn ws bytes) false (gossip-not-taken ws bytes) s []))
+          (inl (arrives i u bytes (from (subst T (sym w) tt))))
       go false w =
-          subst (λ (o : Lent). Goes (after (fronted (doneBy gossipLong o)))) (sym (ill w)) (by-bad (subst (λ (o : Lent). 1 ≤ length (bytesFor (o .reply))) (ill w) s))
+          subst (λ (o : Lent). Goes (after (fronted (doneBy gossipLong o)))) (sym (ill w))
+          (by-bad (subst (λ (o : Lent). 1 ≤ length (bytesFor (o .reply))) (ill w) s))
 
   -- a message that was sent stands at the output's front
   message : List ℕ
@@ -183,10 +186,11 @@ module _ (n : ℕ) where
 
   -- so at every moment of it the third demand holds, and no refused consent goes live
   pub host-demand : fewest ≤ n → n ≤ most → {h : LentHouse} → HostRun n h → HostDemand n h
-  host-demand lo hi {h} r = record { lent = d; calls = λ h′ c. calls h′ c }
+  host-demand lo hi {h} r = record { lent = d; calls = calls }
     where
       d : LentDemand n h
       d = lent-demand n lo hi (host-run r)
 
       calls : (h′ : LentHouse) → Call n h h′ → Step n (held n h) (held n h′) ⊎ (held n h ≡ held n h′)
-      calls h′ (call i u bytes out from) = either (call-goes n h i u bytes out from) (λ s. d .steps (afterCall h i bytes out) s) (λ e. inr (ap (held n) e))
+      calls h′ (call i u bytes out from) =
+          either (call-goes n h i u bytes out from) (λ s. d .steps (afterCall h i bytes out) s) (λ e. inr (ap (held n) e))

@@ -1,45 +1,76 @@
--- A run that uses every step, and in which Permission says yes on a screen that got the tap by gossip. Assumes nothing.
-use Prim.Native.Nat.{ℕ, _<_}
+-- A run that uses every step and ends in Permission's yes on a screen that got the tap by gossip, so the theorems on runs speak of
+-- something; and its end in a no, once a decline of the same showing has arrived there too. Assumes nothing.
 use native.Mathlib.Omega.{arith}
-use mathlib.Core.List.{[], _∷_, flatMap}
+use mathlib.Core.Path.{_≡_, refl}
+use mathlib.Core.Bool.{not}
+use mathlib.Core.List.{_∷_}
 use lib.Dec.{T}
-use Rattle.lists.specs.Facts.{_∈_, here}
-use Rattle.stamp.specs.Limits.{word, parts}
-use Rattle.stamp.specs.Stamp.{Stamp, zeros, stampFits}
-use Rattle.tally.specs.Limits.{frontEnds, serials, promptCount, showings, accept, decline}
-use Rattle.tally.specs.Standing.{among, countAll, ofPrompt, howMany, standing, standingOf, afresh, unasked, accepted, declined, contested, verdictOf}
-use Rattle.tally.specs.Tap.{wordOf, sameTap, tapFits, bodyFits}
+use Rattle.lists.specs.Facts.{here}
+use Rattle.tally.specs.Limits.{accept, decline}
 use Rattle.tally.specs.declared.Tap.{Tap}
 use Rattle.ledger.specs.Cases.{at}
-use Rattle.ledger.specs.Limits.{bookRoom, fewest, most, logRoom}
-use Rattle.ledger.specs.Log.{unknowns, gathered, newlyApplied, remaining, waitingIn, allHeld, gapless}
-use Rattle.ledger.specs.Message.{Message, inRange, messageFits}
-use Rattle.ledger.specs.Record.{Record, stampOf, knows, isKnown, isApplied, isWaiting, everywhere, mayGo, has, recordFits}
-use Rattle.meaning.specs.Book.{fresh, waiting, known, row, standingAt, holds, countedIn, clauses, sound}
-use Rattle.meaning.specs.Reply.{permits}
-use Rattle.meaning.specs.Step.{send, tapStep, gossipStep, ask, nowApplied, tapsOf, nowCounted, settle, newRecord, tapRows, tapStops, askStops, answerOf, newOnes, gossipRows, gossipStops}
+use Rattle.meaning.specs.Cases.{tapped, says}
+use Rattle.meaning.specs.Reply.{figures, permits}
+use Rattle.meaning.specs.Step.{send}
 use Rattle.house.specs.Consent.{answerAt}
-use Rattle.house.specs.House.{House, openHouse, put, grown, afterTap, afterQuestion, afterSend, afterGossip, Step, tap, question, sends, arrives, Run, opened, onward}
+use Rattle.house.specs.House.{House, openHouse, put, grown, afterTap, afterQuestion, afterSend, afterGossip, tap, question, sends, arrives, Run, opened, onward}
 
-A : Tap
-A = record { front = 5; serial = 1; prompt = 7; showing = 1; answer = 1 }
+-- two taps of one showing of prompt 7, the child's seat camera
+childs : Tap
+childs = tapped 5 1 7 1 accept
 
-h1 : House
-h1 = afterTap (openHouse 3) 0 A (at 0 0 0)
+mothers : Tap
+mothers = tapped 6 1 7 1 decline
 
-h2 : House
-h2 = afterSend (afterQuestion h1 0 7 (at 1 0 0)) 0
+-- screen 0 takes the child's accept, is asked, and sends; that gossip arrives at screen 1
+tapped0 : House
+tapped0 = afterTap (openHouse 3) 0 childs (at 0 0 0)
 
-m : Message
-m = send ((afterQuestion h1 0 7 (at 1 0 0)) .book 0)
+asked0 : House
+asked0 = afterQuestion tapped0 0 7 (at 1 0 0)
 
-h3 : House
-h3 = afterGossip h2 1 m
+sent0 : House
+sent0 = afterSend asked0 0
 
-witness : Run 3 h3
-unfolding h1 h2 h3 m afterSend
-witness = onward (onward (onward (onward opened (tap 0 (omega arith) A (at 0 0 0))) (question 0 (omega arith) 7 (at 1 0 0))) (sends 0 (omega arith))) (arrives 1 (omega arith) m here)
+pub yesHouse : House
+yesHouse = afterGossip sent0 1 (send (asked0 .book 0))
 
-yes : T (permits (answerAt h3 1 7 (at 1 0 0)))
-unfolding A h1 h2 h3 m openHouse put grown afterTap afterQuestion afterSend afterGossip parts word zeros stampFits frontEnds serials promptCount showings accept decline sameTap tapFits bodyFits among countAll ofPrompt howMany standingOf standing afresh unasked accepted declined contested verdictOf fewest most logRoom bookRoom inRange messageFits stampOf knows isKnown isApplied isWaiting everywhere mayGo has recordFits unknowns gathered newlyApplied remaining waitingIn allHeld gapless row known standingAt waiting fresh holds countedIn clauses sound nowApplied tapsOf nowCounted settle newRecord tapRows tapStops tapStep askStops answerOf ask send newOnes gossipRows gossipStops gossipStep flatMap
-yes = tt
+-- screen 2 takes the mother's decline, and sends; that gossip arrives at screen 1
+tapped2 : House
+tapped2 = afterTap yesHouse 2 mothers (at 0 0 0)
+
+sent2 : House
+sent2 = afterSend tapped2 2
+
+pub noHouse : House
+noHouse = afterGossip sent2 1 (send (tapped2 .book 2))
+
+pub yes-run : Run 3 yesHouse
+unfolding tapped0 asked0 sent0 yesHouse afterSend
+yes-run =
+    onward (onward (onward (onward opened
+    (tap 0 (omega arith) childs (at 0 0 0)))
+    (question 0 (omega arith) 7 (at 1 0 0)))
+    (sends 0 (omega arith)))
+    (arrives 1 (omega arith) (send (asked0 .book 0)) here)
+
+pub no-run : Run 3 noHouse
+unfolding tapped2 sent2 noHouse afterSend
+no-run =
+    onward (onward (onward yes-run
+    (tap 2 (omega arith) mothers (at 0 0 0)))
+    (sends 2 (omega arith)))
+    (arrives 1 (omega arith) (send (tapped2 .book 2)) here)
+
+-- yes on screen 1 where the label is the accept's stamp, and where it is zeros
+pub yes-said : T (permits (answerAt yesHouse 1 7 (at 1 0 0))) × T (permits (answerAt yesHouse 1 7 (at 0 0 0)))
+unfolding says tapped childs openHouse put grown afterTap afterQuestion afterSend afterGossip tapped0 asked0 sent0 yesHouse
+yes-said = (tt, tt)
+
+-- Contested there, 1 and 1, and so no at both labels
+pub no-said :
+    (figures (answerAt noHouse 1 7 (at 0 0 0)) ≡ 7 ∷ 3 ∷ 1 ∷ 1 ∷ 1 ∷ at 1 0 1)
+    × T (not (permits (answerAt noHouse 1 7 (at 1 0 0)))) × T (not (permits (answerAt noHouse 1 7 (at 0 0 0))))
+unfolding says tapped childs mothers openHouse put grown afterTap afterQuestion afterSend afterGossip tapped0 asked0 sent0 yesHouse
+    tapped2 sent2 noHouse
+no-said = (refl, tt, tt)

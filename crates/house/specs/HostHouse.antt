@@ -29,7 +29,9 @@ afterCall h i bytes out =
 
 -- One call: any bytes at any screen, damaged and truncated ones too, and any output. Only well-formed gossip has to be as it was sent.
 pub data Call (n : ℕ) : LentHouse → LentHouse → Type 0 where
-  call : {h : LentHouse} (i : ℕ) → i < n → (bytes out : List ℕ) → (T (wellFormed bytes) → List·Memᴰ bytes (h .sent)) → Call n h (afterCall h i bytes out)
+  call :
+      {h : LentHouse} (i : ℕ) → i < n → (bytes out : List ℕ) → (T (wellFormed bytes) → List·Memᴰ bytes (h .sent))
+      → Call n h (afterCall h i bytes out)
 
 -- a run: each screen opened once, with its own number, on any slice of the one length; then any calls
 pub data HostRun (n : ℕ) : LentHouse → Type 0 where
