@@ -50,20 +50,20 @@ module _ (ws : List ℕ) where
   pub owes-unsound : lawful ws ≡ false → (o : Outcome) → Promise (onBook ws o) (says.Refused 11) ws
   owes-unsound e o = subst (λ (l : Lent). Promise l (says.Refused 11) ws) (ap (λ (c : Bool). cond c (lentOf o) (record { reply = refusal 11; words = ws })) (sym e)) (record { answers = refl; leaves = refl })
 
-  pub stop-unsound : lawful ws ≡ false → (c : Bool) (stop : Option Reply) → stopOn ws c stop ≡ some (refusal 11)
+  pub stop-unsound : lawful ws ≡ false → (c : Bool) (stop : Option Reply) → stopOn (lawful ws) c stop ≡ some (refusal 11)
   stop-unsound e c stop = ap (λ (d : Bool). cond d (cond c stop (some (refusal 1))) (some (refusal 11))) e
 
   module _ (e : lawful ws ≡ true) where
     on-sound : (o : Outcome) → onBook ws o ≡ lentOf o
     on-sound o = ap (λ (c : Bool). cond c (lentOf o) (record { reply = refusal 11; words = ws })) e
 
-    stop-sound : (c : Bool) (stop : Option Reply) → stopOn ws c stop ≡ cond c stop (some (refusal 1))
+    stop-sound : (c : Bool) (stop : Option Reply) → stopOn (lawful ws) c stop ≡ cond c stop (some (refusal 1))
     stop-sound c stop = ap (λ (d : Bool). cond d (cond c stop (some (refusal 1))) (some (refusal 11))) e
 
-    pub stop-unread : (c : Bool) → c ≡ false → (stop : Option Reply) → stopOn ws c stop ≡ some (refusal 1)
+    pub stop-unread : (c : Bool) → c ≡ false → (stop : Option Reply) → stopOn (lawful ws) c stop ≡ some (refusal 1)
     stop-unread c f stop = stop-sound c stop ∙ ap (λ (d : Bool). cond d stop (some (refusal 1))) f
 
-    pub stop-read : (c : Bool) → T c → (stop : Option Reply) → stopOn ws c stop ≡ stop
+    pub stop-read : (c : Bool) → T c → (stop : Option Reply) → stopOn (lawful ws) c stop ≡ stop
     stop-read c t stop = stop-sound c stop ∙ ap (λ (d : Bool). cond d stop (some (refusal 1))) (is-true c t)
 
     pub owes-unread : (c : Bool) → c ≡ false → (o : Outcome) → Promise (onBook ws (heard c (bookOf ws) o)) (says.Refused 1) ws
@@ -77,7 +77,7 @@ module _ (ws : List ℕ) where
         subst (λ (l : Lent). Promise l r w) (sym q) p
 
   -- nothing stops a request: the book is sound, the bytes are read, and nothing stops the step
-  pub all-clear : (c : Bool) (stop : Option Reply) → stopOn ws c stop ≡ none → (lawful ws ≡ true) × (c ≡ true) × (stop ≡ none)
+  pub all-clear : (c : Bool) (stop : Option Reply) → stopOn (lawful ws) c stop ≡ none → (lawful ws ≡ true) × (c ≡ true) × (stop ≡ none)
   all-clear c stop e = go (lawful ws) c stop e
     where
       go : (l c : Bool) (stop : Option Reply) → cond l (cond c stop (some (refusal 1))) (some (refusal 11)) ≡ none → (l ≡ true) × (c ≡ true) × (stop ≡ none)

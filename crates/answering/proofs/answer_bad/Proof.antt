@@ -1,47 +1,42 @@
+-- `answering::answer_bad` meets its contract. Assumes nothing.
+use mathlib.Core.Path.{refl, sym, _∙_}
+use borrow.Author.Tests.{not-true, not-false}
+use Rattle.answering.specs.Answer.{badOn}
+use Rattle.answering.specs.AnswerLaws.{bad-says}
+use Rattle.answering.proofs.Owes.{answer-says, owes-kept, bad-unsound, bad-unread}
 use borrow.Author.Needs.{needs}
 use Rattle.answering.proofs.answer_bad.Statement.{statement}
 use Rattle.answering.proofs.answer_bad.Tie as tie
-use Rattle.answering.proofs.answer_bad.Reads as reads
-use Rattle.answering.proofs.answer_bad.Lts as lts
-use Rattle.answering.proofs.put.Reads as put-reads
-use Rattle.soundness.proofs.sound.Reads as sound-reads
 
--- src/lib.rt:144:9
-sound-requires : tie.Need-sound-requires
-sound-requires c κs = search needs
-
--- src/lib.rt:145:9
 put-requires : tie.Need-put-requires
-put-requires c κs = search needs
+put-requires c κs =
+    let k = c .before .before in
+    let s = k .before .before .before .args in
+    answer-says (badOn (s .b .now)) _ _ (bad-unsound (s .b .now) (sym (k .sound .ensures) ∙ not-true _ (c .before .if1 .taken))) (bad-says (s .b .now))
 
--- src/lib.rt:145:9
-same-length : tie.Need-same-length
-same-length c = search needs
-
--- src/lib.rt:145:9
 returns : tie.Need-returns
-returns c = search needs
+returns c =
+    let p = c .before .before in
+    let t = p .before .before in
+    let k = t .before in
+    let s = k .before .before .before .args in
+    owes-kept (badOn (s .b .now)) (s .b .now) (s .out .now) (s .b .now) _ (bad-unsound (s .b .now) (sym (k .sound .ensures) ∙ not-true _ (t .if1 .taken)))
+    _ _ (p .put .ensures .0) (p .put .ensures .1) refl
 
--- src/lib.rt:147:5
 put-requires-2 : tie.Need-put-requires-2
-put-requires-2 c κs = search needs
+put-requires-2 c κs =
+    let k = c .before .before in
+    let s = k .before .before .before .args in
+    answer-says (badOn (s .b .now)) _ _ (bad-unread (s .b .now) (sym (k .sound .ensures) ∙ not-false _ (c .before .if1 .left))) (bad-says (s .b .now))
 
--- src/lib.rt:141:1
-same-length-2 : tie.Need-same-length-2
-same-length-2 c = search needs
-
--- src/lib.rt:141:1
 returns-2 : tie.Need-returns-2
-returns-2 c = search needs
+returns-2 c =
+    let p = c .before .before in
+    let t = p .before .before in
+    let k = t .before in
+    let s = k .before .before .before .args in
+    owes-kept (badOn (s .b .now)) (s .b .now) (s .out .now) (s .b .now) _ (bad-unread (s .b .now) (sym (k .sound .ensures) ∙ not-false _ (t .if1 .left)))
+    _ _ (p .put2 .ensures .0) (p .put2 .ensures .1) refl
 
 pub answer-bad-spec : {M : Type 1} → statement M
-answer-bad-spec =
-    tie.close
-    (tie.spec
-    sound-requires
-    put-requires
-    same-length
-    returns
-    put-requires-2
-    same-length-2
-    returns-2)
+answer-bad-spec = tie.close (tie.spec (λ c κs. search needs) put-requires (λ c. search needs) returns put-requires-2 (λ c. search needs) returns-2)

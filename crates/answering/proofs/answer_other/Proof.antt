@@ -10,7 +10,6 @@ use Rattle.wire.specs.Said.{figures}
 use Rattle.wire.specs.declared.Said.{Said}
 use Rattle.gossip.specs.Tags.{not-this}
 use Rattle.wire.specs.Kinds.{sendKind}
-use Rattle.speech.specs.Speech.{refusalLong}
 use Rattle.answering.specs.Answer.{doneBy, sendDone, badOn}
 use Rattle.answering.proofs.Owes.{same-done}
 use borrow.Author.Needs.{needs}
@@ -23,7 +22,7 @@ returns c =
     let s = c .before .before .before .before .before .before .before .before .before .args in
     let read = c .before .before .before .before .before .read-send in
     same-done (s .b .now) (s .out .now) _ _ _
-    (ap (λ (x : Bool). cond x (sendDone (s .b .now)) (doneBy refusalLong (badOn (s .b .now)))) (untold sendKind (s .msg .now) (read .result) (read .ensures) (not-this _ _ (c .before .before .before .before .match .keys2) tt)))
+    (ap (λ (x : Bool). cond x (sendDone (s .b .now)) (doneBy (badOn (s .b .now)))) (untold sendKind (s .msg .now) (read .result) (read .ensures) (not-this _ _ (c .before .before .before .before .match .keys2) tt)))
     (c .before .before .answer-bad .ensures)
 
 returns-2 : tie.Need-returns-2
@@ -31,7 +30,7 @@ returns-2 c =
     let s = c .before .before .before .before .before .before .before .before .before .before .args in
     let read = c .before .before .before .before .before .before .read-send in
     same-done (s .b .now) (s .out .now) _ _ _
-    (ap (λ (x : Bool). cond x (sendDone (s .b .now)) (doneBy refusalLong (badOn (s .b .now)))) (is-true (readable sendKind (s .msg .now)) (told sendKind (s .msg .now) (read .result) (read .ensures) (omega (arith, ap (λ (v : Said). length (figures v)) (c .before .before .before .before .enum-told .given .1))) .0)))
+    (ap (λ (x : Bool). cond x (sendDone (s .b .now)) (doneBy (badOn (s .b .now)))) (is-true (readable sendKind (s .msg .now)) (told sendKind (s .msg .now) (read .result) (read .ensures) (omega (arith, ap (λ (v : Said). length (figures v)) (c .before .before .before .before .enum-told .given .1))) .0)))
     (c .before .before .answer-send .ensures)
 
 pub answer-other-spec : {M : Type 1} → statement M

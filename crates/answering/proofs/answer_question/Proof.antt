@@ -1,26 +1,24 @@
+-- `answering::answer_question` meets its contract. Assumes nothing.
+use mathlib.Core.Path.{refl}
+use Rattle.answers.specs.Lent.{questionOn}
+use Rattle.speech.specs.SpeechLaws.{question-says}
+use Rattle.answering.proofs.Owes.{answer-says, owes-kept}
 use borrow.Author.Needs.{needs}
 use Rattle.answering.proofs.answer_question.Statement.{statement}
 use Rattle.answering.proofs.answer_question.Tie as tie
-use Rattle.answering.proofs.answer_question.Reads as reads
-use Rattle.answering.proofs.answer_question.Lts as lts
-use Rattle.answering.proofs.put.Reads as put-reads
-use Rattle.book.proofs.question.Reads as question-reads
 
--- src/lib.rt:99:9
-question-requires : tie.Need-question-requires
-question-requires c κs = search needs
-
--- src/lib.rt:100:5
 put-requires : tie.Need-put-requires
-put-requires c κs = search needs
+put-requires c κs =
+    let q = c .before in
+    let s = q .before .before .before .before .args in
+    answer-says (questionOn (s .b .now) (s .msg .now)) _ _ (q .question .ensures) (question-says (s .b .now) (s .msg .now))
 
--- src/lib.rt:96:1
-same-length : tie.Need-same-length
-same-length c = search needs
-
--- src/lib.rt:96:1
 returns : tie.Need-returns
-returns c = search needs
+returns c =
+    let p = c .before .before in
+    let q = p .before .before in
+    let s = q .before .before .before .before .args in
+    owes-kept (questionOn (s .b .now) (s .msg .now)) (s .b .now) (s .out .now) (s .b .now) _ (q .question .ensures) _ _ (p .put .ensures .0) (p .put .ensures .1) refl
 
 pub answer-question-spec : {M : Type 1} → statement M
-answer-question-spec = tie.close (tie.spec question-requires put-requires same-length returns)
+answer-question-spec = tie.close (tie.spec (λ c κs. search needs) put-requires (λ c. search needs) returns)

@@ -1,62 +1,54 @@
+-- `answering::answer_send` meets its contract. Assumes nothing.
+use Rattle.answering.proofs.Owes.{send-wrote, send-short, send-ready, send-owes}
 use borrow.Author.Needs.{needs}
 use Rattle.answering.proofs.answer_send.Statement.{statement}
 use Rattle.answering.proofs.answer_send.Tie as tie
-use Rattle.answering.proofs.answer_send.Reads as reads
-use Rattle.answering.proofs.answer_send.Lts as lts
-use Rattle.answering.proofs.put.Reads as put-reads
-use Rattle.book.proofs.send.Reads as send-reads
 
--- src/lib.rt:129:9
-send-requires : tie.Need-send-requires
-send-requires c κs = search needs
+-- the entry, seen from send's answer
+abbrev entry : tie.After-send → tie.Start
+entry k = k .before .before .before .before
 
--- src/lib.rt:131:24
-enum-known-wrote : tie.Need-enum-known-wrote
-enum-known-wrote c = search needs
-
--- src/lib.rt:132:26
-enum-known-wrote-2 : tie.Need-enum-known-wrote-2
-enum-known-wrote-2 c = search needs
-
--- src/lib.rt:134:17
-same-length : tie.Need-same-length
-same-length c = search needs
-
--- src/lib.rt:134:17
 returns : tie.Need-returns
-returns c = search needs
+returns c =
+    let w = c .before .before in
+    let k = w .before .before .before .before in
+    let s = entry k .args in
+    send-short (s .b .now) (s .out .now) _ _ _ (w .wrote2 .given .1) (k .send .ensures) (c .if1 .taken)
 
--- src/lib.rt:136:13
 put-requires : tie.Need-put-requires
-put-requires c κs = search needs
+put-requires c κs =
+    let w = c .before .before .before in
+    let k = w .before .before .before .before in
+    let s = entry k .args in
+    send-ready (s .b .now) (s .out .now) _ _ _ (w .wrote2 .given .1) (k .send .ensures) (c .before .if1 .left)
 
--- src/lib.rt:126:1
-same-length-2 : tie.Need-same-length-2
-same-length-2 c = search needs
-
--- src/lib.rt:126:1
 returns-2 : tie.Need-returns-2
-returns-2 c = search needs
+returns-2 c =
+    let w = c .before in
+    let k = w .before .before .before .before in
+    let s = entry k .args in
+    send-wrote (s .b .now) (s .out .now) _ _ _ (w .wrote .given .1) (k .send .ensures)
 
--- src/lib.rt:126:1
-same-length-3 : tie.Need-same-length-3
-same-length-3 c = search needs
-
--- src/lib.rt:126:1
 returns-3 : tie.Need-returns-3
-returns-3 c = search needs
+returns-3 c =
+    let p = c .before .before in
+    let t = p .before .before in
+    let w = t .before .before in
+    let k = w .before .before .before .before in
+    let s = entry k .args in
+    send-owes (s .b .now) (s .out .now) _ _ _ (w .wrote2 .given .1) (k .send .ensures) (t .if1 .left) _ _ (p .put .ensures .0) (p .put .ensures .1)
 
 pub answer-send-spec : {M : Type 1} → statement M
 answer-send-spec =
     tie.close
     (tie.spec
-    send-requires
-    enum-known-wrote
-    enum-known-wrote-2
-    same-length
+    (λ c κs. search needs)
+    (λ c. search needs)
+    (λ c. search needs)
+    (λ c. search needs)
     returns
     put-requires
-    same-length-2
+    (λ c. search needs)
     returns-2
-    same-length-3
+    (λ c. search needs)
     returns-3)
