@@ -5,7 +5,7 @@ use mathlib.Core.Path.{_≡_, refl, sym, ap, ap₂, subst, _∙_}
 use mathlib.Core.Logic.{_⊎_, inl, inr}
 use mathlib.Core.Bool.{Bool, true, false, cond}
 use mathlib.Core.List.{List, [], _∷_, _++_}
-use borrow.Author.Tests.{le-ltb, ltb-false, ne-eqb}
+use borrow.Author.Tests.{le-ltb, ltb-false}
 use lib.Dec.{T, eqb, ltb}
 use lib.ListN.{length, getD, take, drop}
 use Rattle.lists.specs.Facts.{_∈_, either}
@@ -21,12 +21,12 @@ use Rattle.layout.specs.Words.{bookOf, wordsOf, lawful}
 use Rattle.layout.specs.SoundWords.{lawful-held}
 use Rattle.answers.specs.Lent.{Lent, onBook, heard, tapOn, questionOn, gossipOn, putFront, sendOn}
 use Rattle.speech.specs.KindLaws.{first-taken, first-no-head, first-head, question-not-taken, gossip-not-taken}
-use Rattle.speech.specs.Speech.{bytesFor, tapLong, questionLong, gossipLong, refusalLong}
-use Rattle.answering.specs.Answer.{Done, doneBy, sendDone, badOn, kindIn, doneOn, Answered, answerBy}
-use Rattle.answering.specs.AnswerLaws.{within}
+use Rattle.speech.specs.Speech.{bytesFor}
+use Rattle.answering.specs.Answer.{Done, doneBy, sendDone, badOn, kindIn, doneOn, Answered, kindSaid, answerBy}
+use Rattle.answering.specs.AnswerLaws.{within, first-said}
 use Rattle.house.specs.House.{put, grown, Step}
 use Rattle.house.specs.HostHouse as host
-use Rattle.house.specs.HostHouse.{kindOf, afterCall, Call, call, HostRun, HostDemand}
+use Rattle.house.specs.HostHouse.{afterCall, Call, call, HostRun, HostDemand}
 use Rattle.house.specs.LentHouse.{LentHouse, recordFor, lentTap, lentQuestion, lentSend, lentGossip, LentStep, tap, question, sends, arrives, LentRun, opened, onward, held, LentDemand}
 use Rattle.house.proofs.Invariant.{put-either}
 use Rattle.house.proofs.LentRuns.{lent-demand}
@@ -34,10 +34,6 @@ use Rattle.house.proofs.LentRuns.{lent-demand}
 -- words put where they were
 put-back : {A : Type 0} (f : ℕ → A) (i : ℕ) → put f i (f i) ≡ f
 put-back f i = λ j. λ k. either (put-either f i (f i) k) (λ p. p .1 ∙ ap f (sym (p .0))) (λ p. p .1) j
-
-first-said : (says rest : List ℕ) → 1 ≤ length says → cond (eqb (length says) 0) 0 (getD (says ++ rest) 0 0) ≡ getD says 0 0
-first-said [] rest h = absurd (omega arith)
-first-said (x ∷ says) rest h = ap (λ (c : Bool). cond c 0 x) (ne-eqb (length (x ∷ says)) 0 (λ e. omega arith))
 
 module _ (n : ℕ) (h : LentHouse) (i : ℕ) (u : i < n) (bytes out : List ℕ) (from : T (wellFormed bytes) → bytes ∈ h .sent) where
   ws : List ℕ
@@ -53,7 +49,7 @@ module _ (n : ℕ) (h : LentHouse) (i : ℕ) (u : i < n) (bytes out : List ℕ) 
       }
 
   abbrev after : Answered → LentHouse
-  after a = left (a .words) (take (a .long) (a .bytes)) (eqb (kindOf a) 1) (eqb (kindOf a) 5)
+  after a = left (a .words) (take (a .long) (a .bytes)) (eqb (kindSaid a) 1) (eqb (kindSaid a) 5)
 
   stays : left ws [] false false ≡ h
   unfolding ws
@@ -67,53 +63,53 @@ module _ (n : ℕ) (h : LentHouse) (i : ℕ) (u : i < n) (bytes out : List ℕ) 
   by-kind d s = ap (λ (k : ℕ). left (d .words) (take (length (d .says)) (d .says ++ drop (length (d .says)) out)) (eqb k 1) (eqb k 5)) (first-said (d .says) (drop (length (d .says)) out) s)
 
   -- a reply leaves what the operation leaves, sends nothing, and says by its kind whether a tap is taken
-  by-reply : (room : ℕ) (o : Lent) (c : Bool) → isTaken (o .reply) ≡ c → 1 ≤ length (bytesFor (o .reply)) → (said : List ℕ) → after (fronted (doneBy room o)) ≡ left (o .words) said false c
-  by-reply room o c e s said =
-      by-kind (doneBy room o) s
+  by-reply : (o : Lent) (c : Bool) → isTaken (o .reply) ≡ c → 1 ≤ length (bytesFor (o .reply)) → (said : List ℕ) → after (fronted (doneBy o)) ≡ left (o .words) said false c
+  by-reply o c e s said =
+      by-kind (doneBy o) s
       ∙ ap₂ (λ (x y : Bool). left (o .words) (take (length (bytesFor (o .reply))) (bytesFor (o .reply) ++ drop (length (bytesFor (o .reply))) out)) x y) (first-no-head (o .reply)) (first-taken (o .reply) ∙ e)
 
   abbrev Goes : LentHouse → Type 0
   Goes h′ = LentStep n h h′ ⊎ (h ≡ h′)
 
-  by-tap : 1 ≤ length (bytesFor (tapOn ws bytes .reply)) → Goes (after (fronted (doneBy tapLong (tapOn ws bytes))))
+  by-tap : 1 ≤ length (bytesFor (tapOn ws bytes .reply)) → Goes (after (fronted (doneBy (tapOn ws bytes))))
   unfolding ws lentTap grown
-  by-tap s = subst Goes (sym (by-reply tapLong (tapOn ws bytes) (isTaken (tapOn ws bytes .reply)) refl s [])) (inl (tap i u bytes))
+  by-tap s = subst Goes (sym (by-reply (tapOn ws bytes) (isTaken (tapOn ws bytes .reply)) refl s [])) (inl (tap i u bytes))
 
-  by-question : 1 ≤ length (bytesFor (questionOn ws bytes .reply)) → Goes (after (fronted (doneBy questionLong (questionOn ws bytes))))
+  by-question : 1 ≤ length (bytesFor (questionOn ws bytes .reply)) → Goes (after (fronted (doneBy (questionOn ws bytes))))
   unfolding ws lentQuestion
-  by-question s = subst Goes (sym (by-reply questionLong (questionOn ws bytes) false (question-not-taken ws bytes) s [])) (inl (question i u bytes))
+  by-question s = subst Goes (sym (by-reply (questionOn ws bytes) false (question-not-taken ws bytes) s [])) (inl (question i u bytes))
 
   -- a refusal leaves the house as it was
-  by-refusal : (room k : ℕ) → 1 ≤ length (bytesFor (refusal k)) → (words : List ℕ) → words ≡ ws → Goes (after (fronted (doneBy room (record { reply = refusal k; words = words }))))
-  by-refusal room k s words e =
+  by-refusal : (k : ℕ) → 1 ≤ length (bytesFor (refusal k)) → (words : List ℕ) → words ≡ ws → Goes (after (fronted (doneBy (record { reply = refusal k; words = words }))))
+  by-refusal k s words e =
       let o : Lent = record { reply = refusal k; words = words } in
-      inr (sym (by-reply room o false refl s [] ∙ ap (λ (w : List ℕ). left w [] false false) e ∙ stays))
+      inr (sym (by-reply o false refl s [] ∙ ap (λ (w : List ℕ). left w [] false false) e ∙ stays))
 
-  by-bad : 1 ≤ length (bytesFor (badOn ws .reply)) → Goes (after (fronted (doneBy refusalLong (badOn ws))))
+  by-bad : 1 ≤ length (bytesFor (badOn ws .reply)) → Goes (after (fronted (doneBy (badOn ws))))
   by-bad = go (lawful ws) refl
     where
       bad : Bool → Lent
       bad c = cond c (record { reply = refusal 1; words = wordsOf (bookOf ws) }) (record { reply = refusal 11; words = ws })
 
-      go : (c : Bool) → lawful ws ≡ c → 1 ≤ length (bytesFor ((bad c) .reply)) → Goes (after (fronted (doneBy refusalLong (bad c))))
-      go true e s = by-refusal refusalLong 1 s (wordsOf (bookOf ws)) (lawful-held ws (subst T (sym e) tt) .words)
-      go false e s = by-refusal refusalLong 11 s ws refl
+      go : (c : Bool) → lawful ws ≡ c → 1 ≤ length (bytesFor ((bad c) .reply)) → Goes (after (fronted (doneBy (bad c))))
+      go true e s = by-refusal 1 s (wordsOf (bookOf ws)) (lawful-held ws (subst T (sym e) tt) .words)
+      go false e s = by-refusal 11 s ws refl
 
   -- bytes that are no gossip message are refused like any other bytes that are no request
   ill : wellFormed bytes ≡ false → gossipOn ws bytes ≡ badOn ws
   unfolding gossipOn
   ill w = ap (λ (c : Bool). onBook ws (heard c (bookOf ws) (gossipStep (bookOf ws) (messageOf bytes)))) w
 
-  by-gossip : 1 ≤ length (bytesFor (gossipOn ws bytes .reply)) → Goes (after (fronted (doneBy gossipLong (gossipOn ws bytes))))
+  by-gossip : 1 ≤ length (bytesFor (gossipOn ws bytes .reply)) → Goes (after (fronted (doneBy (gossipOn ws bytes))))
   unfolding ws lentGossip
   by-gossip s = go (wellFormed bytes) refl
     where
-      go : (c : Bool) → wellFormed bytes ≡ c → Goes (after (fronted (doneBy gossipLong (gossipOn ws bytes))))
+      go : (c : Bool) → wellFormed bytes ≡ c → Goes (after (fronted (doneBy (gossipOn ws bytes))))
       go true w =
-          subst Goes (sym (by-reply gossipLong (gossipOn ws bytes) false (gossip-not-taken ws bytes) s []))
+          subst Goes (sym (by-reply (gossipOn ws bytes) false (gossip-not-taken ws bytes) s []))
           (inl (arrives i u bytes (from (subst T (sym w) tt))))
       go false w =
-          subst (λ (o : Lent). Goes (after (fronted (doneBy gossipLong o)))) (sym (ill w))
+          subst (λ (o : Lent). Goes (after (fronted (doneBy o)))) (sym (ill w))
           (by-bad (subst (λ (o : Lent). 1 ≤ length (bytesFor (o .reply))) (ill w) s))
 
   -- a message that was sent stands at the output's front
@@ -139,24 +135,24 @@ module _ (n : ℕ) (h : LentHouse) (i : ℕ) (u : i < n) (bytes out : List ℕ) 
   by-send = go (lawful ws) refl
     where
       done : Bool → Done
-      done c = let says = cond c message (bytesFor (refusal 11)) in record { room = length says; says = says; words = ws }
+      done c = record { says = cond c message (bytesFor (refusal 11)); words = ws }
 
       go : (c : Bool) → lawful ws ≡ c → 1 ≤ length ((done c) .says) → length ((done c) .says) ≤ length out → Goes (after (fronted (done c)))
       go true e s l =
           let said = take (length message) (message ++ drop (length message) out) in
           subst Goes (sym (by-kind (done true) s ∙ ap (λ (k : ℕ). left ws said (eqb k 1) (eqb k 5)) (first-head (send (bookOf ws))) ∙ by-sent e l))
           (inl (sends i u out (length message) (ap (λ (o : Output). o .answer) (sends-so e l))))
-      go false e s l = by-refusal (length (bytesFor (refusal 11))) 11 s ws refl
+      go false e s l = by-refusal 11 s ws refl
 
-  by-done : doneOn ws bytes .room ≤ length out → Goes (after (fronted (doneOn ws bytes)))
+  by-done : length (doneOn ws bytes .says) ≤ length out → Goes (after (fronted (doneOn ws bytes)))
   unfolding doneOn
   by-done room = go (eqb (kindIn bytes) 1) (eqb (kindIn bytes) 3) (eqb (kindIn bytes) 4) (readable sendKind bytes) (within ws bytes .some) room
     where
       done : Bool → Bool → Bool → Bool → Done
       done g t q s =
-          cond g (doneBy gossipLong (gossipOn ws bytes)) (cond t (doneBy tapLong (tapOn ws bytes)) (cond q (doneBy questionLong (questionOn ws bytes)) (cond s (sendDone ws) (doneBy refusalLong (badOn ws)))))
+          cond g (doneBy (gossipOn ws bytes)) (cond t (doneBy (tapOn ws bytes)) (cond q (doneBy (questionOn ws bytes)) (cond s (sendDone ws) (doneBy (badOn ws)))))
 
-      go : (g t q s : Bool) → 1 ≤ length ((done g t q s) .says) → (done g t q s) .room ≤ length out → Goes (after (fronted (done g t q s)))
+      go : (g t q s : Bool) → 1 ≤ length ((done g t q s) .says) → length ((done g t q s) .says) ≤ length out → Goes (after (fronted (done g t q s)))
       go true t q s some l = by-gossip some
       go false true q s some l = by-tap some
       go false false true s some l = by-question some
@@ -166,14 +162,14 @@ module _ (n : ℕ) (h : LentHouse) (i : ℕ) (u : i < n) (bytes out : List ℕ) 
   -- a call is a step over lent slices and bytes, or leaves the house as it was
   pub call-goes : Goes (afterCall h i bytes out)
   unfolding ws afterCall answerBy
-  call-goes = go (ltb (length out) (doneOn ws bytes .room)) refl
+  call-goes = go (ltb (length out) (length (doneOn ws bytes .says))) refl
     where
       answer : Bool → Answered
       answer c = cond c (record { long = 0; words = ws; bytes = out }) (fronted (doneOn ws bytes))
 
-      go : (c : Bool) → ltb (length out) (doneOn ws bytes .room) ≡ c → Goes (after (answer c))
+      go : (c : Bool) → ltb (length out) (length (doneOn ws bytes .says)) ≡ c → Goes (after (answer c))
       go true e = inr (sym stays)
-      go false e = by-done (ltb-false (length out) (doneOn ws bytes .room) e)
+      go false e = by-done (ltb-false (length out) (length (doneOn ws bytes .says)) e)
 
 module _ (n : ℕ) where
   -- a run of calls is a run over lent slices and bytes

@@ -6,16 +6,12 @@ use mathlib.Core.Logic.{_⊎_}
 use mathlib.Core.Bool.{cond}
 use mathlib.Core.List.{List, _∷_, List·Memᴰ}
 use lib.Dec.{T, eqb}
-use lib.ListN.{length, getD, take}
+use lib.ListN.{length, take}
 use Rattle.layout.specs.Words.{bookLong}
 use Rattle.gossip.specs.Message.{wellFormed}
-use Rattle.answering.specs.Answer.{Answered, answerOn}
+use Rattle.answering.specs.Answer.{kindSaid, answerOn}
 use Rattle.house.specs.House.{put, Step}
 use Rattle.house.specs.LentHouse.{LentHouse, openLent, recordFor, held, LentDemand}
-
--- the kind of the reply that a call gave: its first byte, and 0 where it gave none
-abbrev pub kindOf : Answered → ℕ
-kindOf a = cond (eqb (a .long) 0) 0 (getD (a .bytes) 0 0)
 
 -- after a call on screen i: a reply of kind 1 is gossip that the screen has sent, a reply of kind 5 says that the tap is taken
 unfoldable pub afterCall : LentHouse → ℕ → List ℕ → List ℕ → LentHouse
@@ -23,8 +19,8 @@ afterCall h i bytes out =
     let a = answerOn (h .words i) bytes out in
     record {
       words = put (h .words) i (a .words);
-      sent = cond (eqb (kindOf a) 1) (take (a .long) (a .bytes) ∷ h .sent) (h .sent);
-      history = cond (eqb (kindOf a) 5) (recordFor (h .words i) bytes ∷ h .history) (h .history);
+      sent = cond (eqb (kindSaid a) 1) (take (a .long) (a .bytes) ∷ h .sent) (h .sent);
+      history = cond (eqb (kindSaid a) 5) (recordFor (h .words i) bytes ∷ h .history) (h .history);
     }
 
 -- One call: any bytes at any screen, damaged and truncated ones too, and any output. Only well-formed gossip has to be as it was sent.
