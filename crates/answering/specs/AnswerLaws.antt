@@ -1,7 +1,7 @@
 -- Laws of answering. Assumes nothing.
 --     short, front          what answering owes where the output is shorter than the reply, and where it is not
 --     gossip-done ..        which request the byte of kind tells
---     within                a reply is never empty, and is within the room told beforehand
+--     within, room-most     a reply is never empty, and is within the room told beforehand, which is never over the longest message's
 --     twelve-exactly        12 exactly where the output is shorter than the very reply
 --     answered, unanswered  with the room told beforehand every message is answered; a message that is not answered changed nothing
 --     answer-keeps          a reply other than Taken and gossip taken leaves every word as it was
@@ -109,6 +109,18 @@ send-within ws = go (lawful ws) refl
     go : (c : Bool) → lawful ws ≡ c → Within longest (record { says = cond c (bytesOf (send (bookOf ws))) (bytesFor (refusal 11)); words = ws })
     go true e = let l = sent-long ws (subst T (sym e) tt) in record { some = l .0; fits = l .1 }
     go false e = let l = reply-long (refusal 11) unsound-says in record { some = omega (arith, l); fits = omega (arith, l) }
+
+-- no reply is longer than the longest message
+pub room-most : (bytes : List ℕ) → roomFor bytes ≤ longest
+unfolding roomFor
+room-most bytes = go (eqb (kindIn bytes) 1) (eqb (kindIn bytes) 3) (eqb (kindIn bytes) 4) (eqb (kindIn bytes) 12)
+  where
+    go : (gossip tap question send : Bool) → cond gossip gossipLong (cond tap tapLong (cond question questionLong (cond send longest refusalLong))) ≤ longest
+    go true tap question send = omega arith
+    go false true question send = omega arith
+    go false false true send = omega arith
+    go false false false true = omega arith
+    go false false false false = omega arith
 
 -- send's bytes are of kind 12
 send-kind : (bytes : List ℕ) → readable sendKind bytes ≡ true → eqb (kindIn bytes) 12 ≡ true
