@@ -50,6 +50,13 @@ bool consent_permission(const uint64_t *book, size_t words, const uint8_t *messa
  */
 size_t consent_reply_room(const uint8_t *message, size_t length);
 
+/*
+ * Which reply some bytes are: 5 (taken), 6 (already), 7 (verdict), 8 (wait), 9 (refusal) or 10 (gossip taken) when they
+ * are one such message, whole, with its field rules kept; else 0. Gossip, the reply to a send, is 0 here: the screen to
+ * which it is handed judges it.
+ */
+uint8_t consent_reply_kind(const uint8_t *reply, size_t length);
+
 #ifdef __cplusplus
 }
 #endif

@@ -48,6 +48,8 @@ static uint64_t carried_out(const struct call *call)
         return consent_permission(book, call->words, message, call->length);
     case REPLY_ROOM:
         return consent_reply_room(message, call->length);
+    case REPLY_KIND:
+        return consent_reply_kind(message, call->length);
     default:
         _exit(1);
     }

@@ -5,7 +5,7 @@
 
 #include <stdint.h>
 
-enum { BOOK_WORDS, OPEN, ANSWER, PERMISSION, REPLY_ROOM };
+enum { BOOK_WORDS, OPEN, ANSWER, PERMISSION, REPLY_ROOM, REPLY_KIND };
 
 struct call {
     uint64_t function, words, length, room, screen, screens;

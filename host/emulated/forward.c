@@ -1,5 +1,5 @@
 /*
- * The native half: the library's five functions, each carried out by the bridge in an emulator. The build says where
+ * The native half: the library's six functions, each carried out by the bridge in an emulator. The build says where
  * EMULATOR, LOADER, LIBRARIES and BRIDGE are.
  */
 #define _GNU_SOURCE
@@ -112,4 +112,9 @@ bool consent_permission(const uint64_t *book, size_t words, const uint8_t *messa
 size_t consent_reply_room(const uint8_t *message, size_t length)
 {
     return forward((struct call){.function = REPLY_ROOM, .length = length}, NULL, message, NULL);
+}
+
+uint8_t consent_reply_kind(const uint8_t *reply, size_t length)
+{
+    return (uint8_t)forward((struct call){.function = REPLY_KIND, .length = length}, NULL, reply, NULL);
 }

@@ -5,7 +5,9 @@ use book::open;
 use layout::BOOK;
 use opening::Opening;
 use permission::permission;
+use replies::reply_kind;
 ghost use mathlib.Core.Path.{_≡_};
+ghost use Rattle.replies.specs.Which.{replyKind};
 ghost use Rattle.layout.specs.Words.{bookLong};
 ghost use Rattle.meaning.specs.Reply.{permits};
 ghost use Rattle.answers.specs.Lent.{questionOn, openOn};
@@ -57,4 +59,12 @@ pub extern "C" fn consent_reply_room(message: &[u8]) -> usize
     ensures { λ r. ⌜ r ≡ roomFor (now (message .entry)) ⌝ }
 {
     reply_room(message)
+}
+
+// The kind of the reply that some bytes are, 5 to 10; 0 where they are none that keeps its field rules.
+#[no_mangle]
+pub extern "C" fn consent_reply_kind(reply: &[u8]) -> u8
+    ensures { λ r. ⌜ r ≡ replyKind (now (reply .entry)) ⌝ }
+{
+    reply_kind(reply)
 }

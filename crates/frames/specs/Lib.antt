@@ -2,3 +2,4 @@ pub mod Frame
 pub mod FrameLaws
 pub mod Next
 pub mod NextLaws
+pub mod Cases

@@ -1,9 +1,11 @@
 -- The records of one origin as a part of a gossip message: what it holds, and where it starts. Assumes nothing.
 use Prim.Native.Nat.{ℕ, _+_, _*_}
+use mathlib.Core.Path.{_≡_}
 use mathlib.Core.Bool.{cond}
 use mathlib.Core.List.{List, []}
 use lib.Dec.{eqb, ltb}
 use lib.ListN.{length, getD}
+use denote.Ref.{RefT}
 use Rattle.wire.specs.Kinds.{headLong, recordLong}
 use Rattle.lists.specs.Part.{mid}
 use Rattle.lists.specs.Rows.{flat}
@@ -35,3 +37,9 @@ placeOf o parts = headLong + below o parts * recordLong
 -- where the records of an origin start: with none, at the end
 unfoldable pub startOf : ℕ → List ℕ → ℕ
 startOf o bytes = cond (eqb (length (ofOrigin o bytes)) 0) (length bytes) (placeOf o (recordParts bytes))
+
+-- what is found is just this: the records of an origin, as the very part of the lent message that starts there
+pub record Finds (o : ℕ) (msg part : RefT (List ℕ)) : Type 0 where
+  pub holds : part .now ≡ recordsOf o (msg .now)
+  pub block : part .ptr .0 ≡ msg .ptr .0
+  pub starts : part .ptr .1 ≡ msg .ptr .1 + startOf o (msg .now)

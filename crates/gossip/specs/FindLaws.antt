@@ -4,6 +4,7 @@
 --     start-some       it starts there, start-none   and with no record at the end
 --     origin-rows      the rows of what is found are just the records of that origin, in order
 --     origin-records   and they hold just the message's records of that origin
+--     one-part         two parts that the promise allows are one: its bytes, its place, and so its pointer and length
 use Prim.Native.Nat.{ℕ, _+_, _-_, _*_, _≤_}
 use native.Mathlib.Omega.{arith}
 use mathlib.Core.Path.{_≡_, refl, sym, ap, ap₂, subst, _∙_}
@@ -13,6 +14,8 @@ use lib.Dec.{T, eqb, ltb}
 use lib.ListN.{length, take, drop, length-append, length-drop, take-append-drop, drop-of-length-le}
 use lib.Seq.{take-at, drop-at, length-take-le}
 use borrow.Author.Tests.{eq-eqb, ne-eqb}
+use denote.Ref.{RefT}
+use denote.Slice.{sliceVal, slice-vals}
 use Rattle.lists.specs.Facts.{either, and-r, is-true}
 use Rattle.lists.specs.Neighbours.{map-rising}
 use Rattle.lists.specs.Order.{keyBefore, rising}
@@ -27,7 +30,7 @@ use Rattle.ledger.specs.Record.{place}
 use Rattle.wire.specs.Kinds.{recordKind, headLong, recordLong}
 use Rattle.wire.specs.Read.{lineOf, readable}
 use Rattle.gossip.specs.Message.{countIn, partsOf, recordParts, kindIn, screensIn, stampIn, held, recordsIn, inOrder, wellFormed}
-use Rattle.gossip.specs.Find.{originOf, ofOrigin, recordsOf, below, placeOf, startOf}
+use Rattle.gossip.specs.Find.{originOf, ofOrigin, recordsOf, below, placeOf, startOf, Finds}
 use Rattle.gossip.specs.Runs.{count-next, one-run}
 use Rattle.gossip.specs.Told.{well-long, well-order}
 
@@ -163,3 +166,12 @@ module _ (bytes : List ℕ) (w : T (wellFormed bytes)) where
     origin-records =
         ap (map (held (kindIn bytes))) (of-origin ∙ keep-same (λ p. eqb (originOf p) o) (λ p. eqb (held (kindIn bytes) p .origin) o) (recordParts bytes) (λ p. ap (λ (x : ℕ). eqb x o) (sym (origin-byte (screensIn bytes) (stampIn bytes) p))))
         ∙ map-keep (held (kindIn bytes)) (λ r. eqb (r .origin) o) (recordParts bytes)
+
+-- two parts that both meet what finding promises are equal: the same bytes at the same place, so the same slice to a caller
+pub one-part :
+    (o : ℕ) (msg p q : RefT (List ℕ)) → Finds o msg p → Finds o msg q
+    → (p .now ≡ q .now) × (p .ptr ≡ q .ptr) × (slice-vals p ≡ slice-vals q)
+one-part o msg p q f g =
+    let held : p .now ≡ q .now = f .holds ∙ sym (g .holds) in
+    let at : p .ptr ≡ q .ptr = ap₂ (λ (b k : ℕ). (b, k)) (f .block ∙ sym (g .block)) (f .starts ∙ sym (g .starts)) in
+    (held, at, ap₂ (λ (a : ℕ × ℕ) (l : List ℕ). sliceVal a (length l) ∷ []) at held)

@@ -16,7 +16,7 @@ ghost use Rattle.stamp.specs.Parts.{listOf};
 ghost use Rattle.wire.specs.Kinds.{recordKind, headLong, recordLong};
 ghost use Rattle.wire.specs.Read.{readAs};
 ghost use Rattle.gossip.specs.Message.{partsOf, inOrder, readGossip};
-ghost use Rattle.gossip.specs.Find.{partAt, originOf, below, placeOf, startOf, recordsOf};
+ghost use Rattle.gossip.specs.Find.{partAt, originOf, below, placeOf, Finds};
 
 // Where a record's origin stands.
 const ORIGIN: usize = 1;
@@ -146,8 +146,7 @@ fn place(msg: &[u8], count: usize, o: u64) -> usize
 // The records of one origin, as the very part of the message that holds them; with none, or of bytes that are refused, the
 // empty part at the end.
 pub fn records_of(msg: &[u8], origin: u8) -> &[u8]
-    ensures { λ r. ⌜ now r ≡ recordsOf origin (now (msg .entry)) ⌝ }
-    ensures { λ r. ⌜ (r .ptr .0 ≡ msg .entry .ptr .0) × (r .ptr .1 ≡ msg .entry .ptr .1 + startOf origin (now (msg .entry))) ⌝ }
+    ensures { λ r. ⌜ Finds origin (msg .entry) r ⌝ }
 {
     let head = read_gossip(msg);
     let Said::Head {

@@ -30,6 +30,7 @@ ghost use Rattle.wire.specs.Read.{readAs};
 ghost use Rattle.wire.specs.Said.{figures};
 ghost use Rattle.wire.specs.Write.{Meets, putLine, writeAs};
 ghost use Rattle.wire.specs.declared.Said.the-variants as said;
+ghost use Rattle.replies.specs.Which.{isMessage, replyKind};
 
 // A line holds the kind, then the fields; each message is as long as its widths together.
 const STAMP_LINE: usize = 9;
@@ -81,6 +82,9 @@ const BEFORE_TEN: u64 = 9;
 const AFTER_TEN: u64 = 11;
 
 const LAST_REFUSAL: u64 = 12;
+
+// No reply has this kind.
+const NO_REPLY: u8 = 0;
 
 pub fn read_taken(msg: &[u8]) -> Said
     ensures { λ r. ⌜ r ≡ readAs takenKind (now (msg .entry)) ⌝ }
@@ -257,4 +261,39 @@ pub fn write_gossip_taken(new: u64, applied: u64, out: &mut [u8]) -> Written
 {
     let line = [GOSSIP_TAKEN as u64, new, applied];
     put_line(&GOSSIP_TAKEN_WIDTHS, GOSSIP_TAKEN_SIZE, &line, out)
+}
+
+// Whether a reader's answer is a message.
+fn is_message(said: Said) -> bool
+    ensures { λ r. ⌜ r ≡ isMessage said ⌝ }
+{
+    match said {
+        Said::Unreadable(_) => false,
+        _ => true,
+    }
+}
+
+// The kind of the reply that the bytes are; 0 where they are none that keeps its field rules.
+pub fn reply_kind(msg: &[u8]) -> u8
+    ensures { λ r. ⌜ r ≡ replyKind (now (msg .entry)) ⌝ }
+{
+    if is_message(read_taken(msg)) {
+        return TAKEN;
+    }
+    if is_message(read_already(msg)) {
+        return ALREADY;
+    }
+    if is_message(read_verdict(msg)) {
+        return VERDICT;
+    }
+    if is_message(read_wait(msg)) {
+        return WAIT;
+    }
+    if is_message(read_refusal(msg)) {
+        return REFUSAL;
+    }
+    if is_message(read_gossip_taken(msg)) {
+        return GOSSIP_TAKEN;
+    }
+    NO_REPLY
 }

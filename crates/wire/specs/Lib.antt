@@ -6,3 +6,4 @@ pub mod Returns
 pub mod Laws
 pub mod ReadLaws
 pub mod Case
+pub mod Edges

@@ -17,6 +17,7 @@ mod library {
         ) -> usize;
         pub fn consent_permission(book: *const u64, words: usize, message: *const u8, length: usize) -> bool;
         pub fn consent_reply_room(message: *const u8, length: usize) -> usize;
+        pub fn consent_reply_kind(reply: *const u8, length: usize) -> u8;
     }
 }
 
@@ -59,4 +60,10 @@ pub fn permission(book: &[u64], message: &[u8]) -> bool {
 pub fn reply_room(message: &[u8]) -> usize {
     // SAFETY: pointer and length are the slice's own.
     unsafe { library::consent_reply_room(message.as_ptr(), message.len()) }
+}
+
+/// Which reply the bytes are, 5 to 10; 0 when they are none that keeps its field rules.
+pub fn reply_kind(reply: &[u8]) -> u8 {
+    // SAFETY: pointer and length are the slice's own.
+    unsafe { library::consent_reply_kind(reply.as_ptr(), reply.len()) }
 }

@@ -54,9 +54,9 @@ pub use contents::Contents;
 pub use message::{Gossip, Reply, Request};
 pub use values::{Answer, Question, Record, Refusal, Stamp, Standing, Tap, Verdict};
 
-/// The library's five functions over memory that the caller lends.
+/// The library's six functions over memory that the caller lends.
 ///
 /// None of them asks anything of its arguments: any words, any bytes and any lengths are judged and answered.
 pub mod lent {
-    pub use crate::ffi::{answer, book_words, open, permission, reply_room};
+    pub use crate::ffi::{answer, book_words, open, permission, reply_kind, reply_room};
 }

@@ -1,8 +1,8 @@
 //! The wrapper over the proved library: the practice car of document 01, and how bytes and values correspond.
 
 use consent::{
-    Answer, Book, Gossip, GossipTaken, Question, QuestionAnswer, Refusal, Reply, Request, Stamp, Standing,
-    Tap, TapAnswer, Verdict,
+    lent, Answer, Book, Gossip, GossipTaken, Question, QuestionAnswer, Refusal, Reply, Request, Stamp,
+    Standing, Tap, TapAnswer, Verdict,
 };
 
 const TAP_A: Tap = Tap { front_end: 5, serial: 1, prompt: 7, showing: 1, answer: Answer::Accept };
@@ -122,4 +122,18 @@ fn every_reply_has_one_writing() {
         assert_eq!(Reply::decode(&reply.encode()), Some(reply));
     }
     assert_eq!(Reply::decode(&[9, 10]), None);
+}
+
+#[test]
+fn replies_are_judged_as_the_library_judges_them() {
+    for (kind, length) in (2..=20).flat_map(|kind| (0..=50).map(move |length| (kind, length))) {
+        for filling in [0, 1, 3, 4, 9, 10, 11, 12, 13, 255] {
+            let mut bytes = vec![filling; length];
+            bytes.insert(0, kind);
+            let judged = if Reply::decode(&bytes).is_some() { kind } else { 0 };
+            assert_eq!(lent::reply_kind(&bytes), judged, "{bytes:?}");
+        }
+    }
+    assert_eq!(lent::reply_kind(&[]), 0);
+    assert_eq!(lent::reply_kind(&after_b().send().unwrap()), 0);
 }

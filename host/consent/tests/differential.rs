@@ -8,6 +8,7 @@ const PROVED: Functions = Functions {
     answer: consent::lent::answer,
     permission: consent::lent::permission,
     reply_room: consent::lent::reply_room,
+    reply_kind: consent::lent::reply_kind,
 };
 
 /// `CONSENT_SEED` and `CONSENT_MESSAGES` make it another run, or a longer one.

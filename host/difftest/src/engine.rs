@@ -1,4 +1,4 @@
-//! What is compared: an implementation of the book, as five functions.
+//! What is compared: an implementation of the book, as six functions.
 
 /// One implementation of the consent book over lent words and bytes.
 pub trait Engine {
@@ -12,15 +12,18 @@ pub trait Engine {
     fn permission(&self, book: &[u64], message: &[u8]) -> bool;
     /// The greatest length of the reply to a request.
     fn reply_room(&self, message: &[u8]) -> usize;
+    /// Which reply the bytes are; 0 for none.
+    fn reply_kind(&self, reply: &[u8]) -> u8;
 }
 
-/// An engine of five plain functions.
+/// An engine of six plain functions.
 pub struct Functions {
     pub book_words: fn() -> usize,
     pub open: fn(&mut [u64], u64, u64) -> u64,
     pub answer: fn(&mut [u64], &[u8], &mut [u8]) -> usize,
     pub permission: fn(&[u64], &[u8]) -> bool,
     pub reply_room: fn(&[u8]) -> usize,
+    pub reply_kind: fn(&[u8]) -> u8,
 }
 
 impl Functions {
@@ -31,6 +34,7 @@ impl Functions {
         answer: plain::entry::answer,
         permission: plain::entry::permission,
         reply_room: plain::entry::reply_room,
+        reply_kind: plain::entry::reply_kind,
     };
 }
 
@@ -53,5 +57,9 @@ impl Engine for Functions {
 
     fn reply_room(&self, message: &[u8]) -> usize {
         (self.reply_room)(message)
+    }
+
+    fn reply_kind(&self, reply: &[u8]) -> u8 {
+        (self.reply_kind)(reply)
     }
 }

@@ -19,6 +19,7 @@ mod forge;
 mod house;
 mod pair;
 mod random;
+mod replies;
 mod run;
 mod view;
 

@@ -8,6 +8,9 @@ use crate::engine::Engine;
 /// What stands in a reply's buffer before an answer: both sides must leave the same bytes past the reply.
 const UNTOUCHED: u8 = 0xa5;
 
+/// The byte of kind of gossip.
+const GOSSIP: u8 = 1;
+
 /// The refusal of a book that is unsound or of wrong length.
 pub const UNSOUND: [u8; 2] = [9, 11];
 
@@ -86,6 +89,7 @@ impl<'a> Pair<'a> {
             same(length, other).and_then(|()| same_bytes(&left, &right)).and_then(|()| books.compare());
         compared.map_err(|what| format!("{} with room {room}: {what}", hex(message)))?;
         left.truncate(length);
+        self.read(&left)?;
         self.note(&left);
         Ok(left)
     }
@@ -106,11 +110,26 @@ impl<'a> Pair<'a> {
         Ok(left)
     }
 
+    /// Which reply both sides say that some bytes are; 0 for none.
+    pub fn reply_kind(&self, reply: &[u8]) -> Result<u8, String> {
+        let left = self.left.reply_kind(reply);
+        same(left, self.right.reply_kind(reply))
+            .map_err(|what| format!("the kind of reply of {}: {what}", hex(reply)))?;
+        Ok(left)
+    }
+
     /// The length of a book, on which both sides agree.
     pub fn book_words(&self) -> Result<usize, String> {
         let left = self.left.book_words();
         same(left, self.right.book_words()).map_err(|what| format!("length of a book: {what}"))?;
         Ok(left)
+    }
+
+    /// A reply that was given is read as one of its kind. Gossip is none of these.
+    fn read(&self, reply: &[u8]) -> Result<(), String> {
+        let kind = reply.first().copied().filter(|&kind| kind != GOSSIP).unwrap_or(0);
+        let read = self.reply_kind(reply)?;
+        same(read, kind).map_err(|what| format!("reply {} is read as another: {what}", hex(reply)))
     }
 
     fn note(&mut self, reply: &[u8]) {

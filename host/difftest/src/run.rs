@@ -5,6 +5,10 @@ use crate::engine::Engine;
 use crate::house::House;
 use crate::pair::{Difference, Pair};
 use crate::random::Random;
+use crate::replies;
+
+/// So many replies are made up for every house, and damaged.
+const REPLIES: usize = 200;
 
 /// How long a run is. The default is the one that every change has to pass.
 #[derive(Clone, Debug)]
@@ -51,6 +55,7 @@ impl Plan {
 /// Drives the engine under test and the second opinion side by side; the first difference ends the run.
 pub fn run(plan: &Plan, tested: &dyn Engine, opinion: &dyn Engine) -> Result<Report, Difference> {
     let mut pair = Pair::new(tested, opinion);
+    replies::edges(&pair).map_err(|what| Difference { seed: plan.seed, after: 0, what })?;
     let mut houses = 0;
     while pair.messages < plan.messages || houses < plan.sweeps {
         // A house has its own seed, the first of them the plan's: a difference is brought back by its house alone.
@@ -81,7 +86,7 @@ fn one_house(pair: &mut Pair, random: &mut Random, sweep: bool) -> Result<(), St
     if sweep {
         damage::every_word(pair, random, sound)?;
     }
-    Ok(())
+    replies::damaged(pair, random, REPLIES)
 }
 
 fn number_in(variable: &str) -> Option<u64> {

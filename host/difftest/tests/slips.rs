@@ -14,6 +14,7 @@ macro_rules! slip {
                 answer: $name::entry::answer,
                 permission: $name::entry::permission,
                 reply_room: $name::entry::reply_room,
+                reply_kind: $name::entry::reply_kind,
             },
         )
     };

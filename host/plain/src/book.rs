@@ -26,6 +26,15 @@ pub enum Verdict {
     Contested = 3,
 }
 
+impl Verdict {
+    /// The verdict of that number.
+    pub fn from_number(number: u8) -> Option<Verdict> {
+        [Verdict::Unasked, Verdict::Accepted, Verdict::Declined, Verdict::Contested]
+            .get(usize::from(number))
+            .copied()
+    }
+}
+
 /// What a tap answers when it is not refused.
 #[derive(Clone, Copy, Debug, PartialEq, Eq)]
 pub enum TapAnswer {

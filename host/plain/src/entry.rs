@@ -1,4 +1,4 @@
-//! The five functions over lent words and bytes that the proved library exports too.
+//! The six functions over lent words and bytes that the proved library exports too.
 
 use super::message::{kind, HEAD_BYTES, RECORD_BYTES};
 use super::{Book, Refusal, Reply, Request, TapAnswer, LOG_ROOM, WORDS};
@@ -70,6 +70,11 @@ pub fn reply_room(message: &[u8]) -> usize {
         Some(&kind::SEND) => HEAD_BYTES + LOG_ROOM * RECORD_BYTES,
         _ => REFUSAL_BYTES,
     }
+}
+
+/// Which reply the bytes are, 5 to 10; 0 when they are none that obeys its field rules.
+pub fn reply_kind(bytes: &[u8]) -> u8 {
+    Reply::parse(bytes).map_or(0, |reply| reply.kind())
 }
 
 /// The room without which nothing is looked at. Send asks for its actual message later, when the log is known.

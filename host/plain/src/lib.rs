@@ -4,7 +4,7 @@
 //! what every book becomes, and a measure of what such a book costs when nobody proves anything.
 //! It shares no code with the proved crates or their wrapper.
 //!
-//! Two ways in: [`Book`] with typed requests and answers, and [`entry`], the five functions over
+//! Two ways in: [`Book`] with typed requests and answers, and [`entry`], the six functions over
 //! lent words and bytes that the proved library exports too.
 //!
 //! ```

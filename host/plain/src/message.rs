@@ -1,6 +1,6 @@
 //! Messages read and written, with their field rules.
 
-use super::book::{Prompt, QuestionAnswer, TapAnswer, LOG_ROOM};
+use super::book::{Prompt, QuestionAnswer, TapAnswer, Verdict, LOG_ROOM};
 use super::{Book, Record, Refusal, Stamp, Tap, LEAST_SCREENS, MOST_SCREENS, PROMPTS};
 
 /// The length of a gossip message's head.
@@ -10,6 +10,7 @@ pub const RECORD_BYTES: usize = 47;
 
 const STAMP_BYTES: usize = 4 * MOST_SCREENS;
 const TAP_BYTES: usize = 9;
+const STANDING_BYTES: usize = 11;
 
 /// The byte of kind of each message.
 pub(super) mod kind {
@@ -158,6 +159,42 @@ impl Book {
 }
 
 impl Reply {
+    /// The reply that these bytes are, whole and obeying the field rules: all parts of its stamp are free.
+    pub fn parse(bytes: &[u8]) -> Option<Reply> {
+        let (&kind, body) = bytes.split_first()?;
+        let reply = match (kind, body) {
+            (kind::TAKEN, _) if body.len() == STAMP_BYTES => Reply::Tap(TapAnswer::Taken(read_stamp(body))),
+            (kind::ALREADY, _) if body.len() == STAMP_BYTES => {
+                Reply::Tap(TapAnswer::Already(read_stamp(body)))
+            }
+            (kind::VERDICT, &[verdict, ..]) if body.len() == STANDING_BYTES + STAMP_BYTES => {
+                let (standing, value) = body.split_at(STANDING_BYTES);
+                let prompt = read_prompt(&standing[1..]);
+                let verdict = Verdict::from_number(verdict)?;
+                Reply::Question(QuestionAnswer::Verdict { verdict, prompt, value: read_stamp(value) })
+            }
+            (kind::WAIT, &[lacking]) => Reply::Question(QuestionAnswer::Wait { lacking }),
+            (kind::REFUSAL, &[number]) => Reply::Refused(Refusal::from_number(number)?),
+            (kind::GOSSIP_TAKEN, [_, _, _, _]) => {
+                Reply::GossipTaken { new: read_u16(body), applied: read_u16(&body[2..]) }
+            }
+            _ => return None,
+        };
+        Some(reply)
+    }
+
+    /// Its byte of kind.
+    pub fn kind(&self) -> u8 {
+        match self {
+            Reply::Tap(TapAnswer::Taken(_)) => kind::TAKEN,
+            Reply::Tap(TapAnswer::Already(_)) => kind::ALREADY,
+            Reply::Question(QuestionAnswer::Verdict { .. }) => kind::VERDICT,
+            Reply::Question(QuestionAnswer::Wait { .. }) => kind::WAIT,
+            Reply::Refused(_) => kind::REFUSAL,
+            Reply::GossipTaken { .. } => kind::GOSSIP_TAKEN,
+        }
+    }
+
     /// Writes the reply at the front of `out`; answers its length.
     ///
     /// # Panics
@@ -190,6 +227,10 @@ fn read_u32(bytes: &[u8]) -> u32 {
 
 fn read_stamp(bytes: &[u8]) -> Stamp {
     Stamp(std::array::from_fn(|k| read_u32(&bytes[4 * k..])))
+}
+
+fn read_prompt(bytes: &[u8]) -> Prompt {
+    Prompt { showing: read_u16(bytes), accepts: read_u32(&bytes[2..]), declines: read_u32(&bytes[6..]) }
 }
 
 fn read_tap(bytes: &[u8]) -> Option<Tap> {

@@ -33,4 +33,22 @@ impl Refusal {
     pub fn number(self) -> u8 {
         self as u8
     }
+
+    /// The refusal of that number. Ten is not used.
+    pub fn from_number(number: u8) -> Option<Refusal> {
+        Some(match number {
+            1 => Refusal::Malformed,
+            2 => Refusal::House,
+            3 => Refusal::LabelAhead,
+            4 => Refusal::Old,
+            5 => Refusal::Crossed,
+            6 => Refusal::ClaimsOurs,
+            7 => Refusal::Spent,
+            8 => Refusal::Gap,
+            9 => Refusal::NoRoom,
+            11 => Refusal::Unsound,
+            12 => Refusal::ShortOutput,
+            _ => return None,
+        })
+    }
 }

@@ -269,3 +269,28 @@ fn unsound_stands_before_unreadable() {
     assert_eq!(entry::open(&mut [0; 5], 9, 9), 11);
     assert_eq!(entry::open(&mut words, 9, 9), 2);
 }
+
+/// Of all bytes, those at which the reply is read.
+fn read_at(reply: impl Fn(u8) -> Vec<u8>) -> Vec<u8> {
+    (0..=255).filter(|&byte| entry::reply_kind(&reply(byte)) != 0).collect()
+}
+
+#[test]
+fn replies_at_their_edges() {
+    assert_eq!(read_at(|number| vec![9, number]), [1, 2, 3, 4, 5, 6, 7, 8, 9, 11, 12]);
+    assert_eq!(read_at(|verdict| [&[7, verdict], [0; 42].as_slice()].concat()), [0, 1, 2, 3]);
+    assert_eq!(read_at(|lacking| vec![8, lacking]).len(), 256);
+    // All parts of a stamp are free, and counts above 256 are read.
+    for (kind, length) in [(5, 32), (6, 32), (10, 4)] {
+        let mut bytes = vec![255; 1 + length];
+        bytes[0] = kind;
+        assert_eq!(entry::reply_kind(&bytes), kind);
+        assert_eq!(entry::reply_kind(&bytes[..length]), 0);
+        bytes.push(255);
+        assert_eq!(entry::reply_kind(&bytes), 0);
+    }
+    // Requests, and the gossip that answers a send, are no such replies.
+    assert_eq!(entry::reply_kind(&[12]), 0);
+    assert_eq!(entry::reply_kind(&sent(&after_b())), 0);
+    assert_eq!(entry::reply_kind(&[]), 0);
+}

@@ -22,7 +22,11 @@ returns c =
     let r = c .before .before in
     let s = r .before .before .args in
     let e = gossip-untold (s .msg .now) (r .read-gossip .result) (r .read-gossip .ensures) (not-this _ _ (c .before .match .keys2) tt) in
-    (end-part (s .msg .now) ∙ sym (none-refused (s .origin) (s .msg .now) e), (refl, rw (start-refused (s .origin) (s .msg .now) e) (omega arith)))
+    record {
+      holds = end-part (s .msg .now) ∙ sym (none-refused (s .origin) (s .msg .now) e);
+      block = refl;
+      starts = rw (start-refused (s .origin) (s .msg .now) e) (omega arith);
+    }
 
 -- past the `let`: the message is well formed, and its count is the head's
 well : (c : tie.After-known-told) → T (wellFormed (c .before .before .before .before .before .args .msg .now))
@@ -70,7 +74,11 @@ returns-2 c =
     let k = p .before .before .before in
     let s = k .before .before .before .before .before .args in
     let e = sym (first p) ∙ c .before .if1 .taken ∙ second p in
-    (end-part (s .msg .now) ∙ sym (none-found (s .msg .now) (well k) (s .origin) e), (refl, rw (start-none (s .msg .now) (well k) (s .origin) e) (omega arith)))
+    record {
+      holds = end-part (s .msg .now) ∙ sym (none-found (s .msg .now) (well k) (s .origin) e);
+      block = refl;
+      starts = rw (start-none (s .msg .now) (well k) (s .origin) e) (omega arith);
+    }
 
 sub-result-3 : tie.Need-sub-result-3
 sub-result-3 c = rises (c .before)
@@ -85,7 +93,11 @@ returns-3 c =
     let k = p .before .before .before in
     let s = k .before .before .before .before .before .args in
     let e = start-some (s .msg .now) (well k) (s .origin) (λ q. c .before .if1 .left (first p ∙ q ∙ sym (second p))) in
-    (rw (first p, second p) (found (s .msg .now) (well k) (s .origin)), (refl, rw (e, ← first p) (omega arith)))
+    record {
+      holds = rw (first p, second p) (found (s .msg .now) (well k) (s .origin));
+      block = refl;
+      starts = rw (e, ← first p) (omega arith);
+    }
 
 pub records-of-spec : {M : Type 1} → statement M
 records-of-spec =
