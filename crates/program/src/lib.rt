@@ -9,9 +9,10 @@ use speech::speak;
 use wire::BAD;
 use wire::Written;
 ghost use mathlib.Core.Path.{_≡_};
+ghost use mathlib.Core.Bool.{_&&_};
 ghost use mathlib.Core.List.{_++_};
 ghost use Prim.Native.Nat.{_≤_};
-ghost use lib.Dec.{T};
+ghost use lib.Dec.{T, eqb};
 ghost use lib.ListN.{length, drop};
 ghost use Rattle.wire.specs.Kinds.{longest};
 ghost use Rattle.meaning.specs.Reply.{refusal};
@@ -46,6 +47,16 @@ fn last_refusal(number: u64, out: &mut [u8]) -> Turn
     }
 }
 
+// Whether the book is open and nothing of a next message is read.
+fn is_between(read: &[u8], opened: bool) -> bool
+    ensures { λ r. ⌜ r ≡ (opened && eqb (length (now (read .entry))) 0) ⌝ }
+{
+    if !opened {
+        return false;
+    }
+    read.len() == 0
+}
+
 // What is read is no whole message yet, which needs n bytes.
 fn more_turn(book: &[u64], read: &[u8], ended: bool, opened: bool, n: usize, out: &mut [u8]) -> Turn
     requires { ⌜ longest ≤ length (now out) ⌝ }
@@ -54,7 +65,7 @@ fn more_turn(book: &[u64], read: &[u8], ended: bool, opened: bool, n: usize, out
     if !ended {
         return Turn::Read(n);
     }
-    if opened && read.len() == 0 {
+    if is_between(read, opened) {
         return Turn::Stop;
     }
     last_refusal(BAD, out)

@@ -1,52 +1,34 @@
+-- `program::message_turn` meets its contract. Assumes nothing.
+use borrow.Author.Tests.{not-true, not-false}
+use Rattle.program.proofs.Owes.{message-opens, message-replies}
 use borrow.Author.Needs.{needs}
 use Rattle.program.proofs.message_turn.Statement.{statement}
 use Rattle.program.proofs.message_turn.Tie as tie
-use Rattle.program.proofs.message_turn.Reads as reads
-use Rattle.program.proofs.message_turn.Lts as lts
-use Rattle.answering.proofs.answer.Reads as answer-reads
-use Rattle.program.proofs.open_turn.Reads as open-turn-reads
 
--- src/lib.rt:84:9
-open-turn-requires : tie.Need-open-turn-requires
-open-turn-requires c κs = search needs
-
--- src/lib.rt:84:9
-same-length : tie.Need-same-length
-same-length c = search needs
-
--- src/lib.rt:84:9
-same-length-2 : tie.Need-same-length-2
-same-length-2 c = search needs
-
--- src/lib.rt:84:9
 returns : tie.Need-returns
-returns c = search needs
+returns c =
+    let o = c .before .before .before .before in
+    let e = o .before .before .before in
+    let s = e .before .before .before .before .args in
+    message-opens (s .book .now) (s .msg .now) (s .out .now) (s .opened) (not-true _ (e .if1 .taken)) _ _ _ (o .open-turn .ensures)
 
--- src/lib.rt:86:9
-answer-requires : tie.Need-answer-requires
-answer-requires c κs = search needs
-
--- src/lib.rt:79:1
-same-length-3 : tie.Need-same-length-3
-same-length-3 c = search needs
-
--- src/lib.rt:79:1
-same-length-4 : tie.Need-same-length-4
-same-length-4 c = search needs
-
--- src/lib.rt:79:1
 returns-2 : tie.Need-returns-2
-returns-2 c = search needs
+returns-2 c =
+    let a = c .before .before .before .before in
+    let e = a .before .before .before in
+    let s = e .before .before .before .before in
+    let w = s .args in
+    message-replies (w .book .now) (w .msg .now) (w .out .now) (w .opened) (not-false _ (e .if1 .left)) (s .pre) _ _ _ (a .answer .ensures)
 
 pub message-turn-spec : {M : Type 1} → statement M
 message-turn-spec =
     tie.close
     (tie.spec
-    open-turn-requires
-    same-length
-    same-length-2
+    (λ c κs. search needs)
+    (λ c. search needs)
+    (λ c. search needs)
     returns
-    answer-requires
-    same-length-3
-    same-length-4
+    (λ c κs. search needs)
+    (λ c. search needs)
+    (λ c. search needs)
     returns-2)

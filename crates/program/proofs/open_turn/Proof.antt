@@ -1,57 +1,43 @@
+-- `program::open_turn` meets its contract. Assumes nothing.
+use Rattle.program.proofs.Owes.{opening-says, opens-silent, opens-refused}
 use borrow.Author.Needs.{needs}
 use Rattle.program.proofs.open_turn.Statement.{statement}
 use Rattle.program.proofs.open_turn.Tie as tie
-use Rattle.program.proofs.open_turn.Reads as reads
-use Rattle.program.proofs.open_turn.Lts as lts
-use Rattle.answering.proofs.open_from.Reads as open-from-reads
-use Rattle.program.proofs.last_refusal.Reads as last-refusal-reads
 
--- src/lib.rt:68:9
-open-from-requires : tie.Need-open-from-requires
-open-from-requires c κs = search needs
+-- the entry, seen from the opening
+abbrev entry : tie.After-open-from → tie.Start
+entry o = o .before .before .before .before .before
 
--- src/lib.rt:71:19
-enum-told : tie.Need-enum-told
-enum-told c = search needs
-
--- src/lib.rt:74:26
-enum-known-opening : tie.Need-enum-known-opening
-enum-known-opening c = search needs
-
--- src/lib.rt:74:37
 last-refusal-requires : tie.Need-last-refusal-requires
-last-refusal-requires c κs = search needs
+last-refusal-requires c κs =
+    let o = c .before .before .before .before .before .before in
+    let s = entry o in
+    (opening-says (s .args .book .now) (s .args .msg .now) _ _ (o .open-from .ensures) (s .args .out .now) _ (c .before .before .opening .given .1), s .pre)
 
--- src/lib.rt:64:1
-same-length : tie.Need-same-length
-same-length c = search needs
-
--- src/lib.rt:64:1
 returns : tie.Need-returns
-returns c = search needs
+returns c =
+    let o = c .before .before .before .before in
+    let s = entry o .args in
+    opens-silent (s .book .now) (s .msg .now) _ _ (o .open-from .ensures) (s .out .now) (c .enum-told .given .1)
 
--- src/lib.rt:64:1
-same-length-2 : tie.Need-same-length-2
-same-length-2 c = search needs
-
--- src/lib.rt:64:1
-same-length-3 : tie.Need-same-length-3
-same-length-3 c = search needs
-
--- src/lib.rt:64:1
 returns-2 : tie.Need-returns-2
-returns-2 c = search needs
+returns-2 c =
+    let r = c .before .before in
+    let p = r .before .before .before in
+    let o = p .before .before .before .before in
+    let s = entry o .args in
+    opens-refused (s .book .now) (s .msg .now) _ _ (o .open-from .ensures) (s .out .now) _ (p .opening .given .1) _ _ (r .last-refusal .ensures .0) (r .last-refusal .ensures .1)
 
 pub open-turn-spec : {M : Type 1} → statement M
 open-turn-spec =
     tie.close
     (tie.spec
-    open-from-requires
-    enum-told
-    enum-known-opening
+    (λ c κs. search needs)
+    (λ c. search needs)
+    (λ c. search needs)
     last-refusal-requires
-    same-length
+    (λ c. search needs)
     returns
-    same-length-2
-    same-length-3
+    (λ c. search needs)
+    (λ c. search needs)
     returns-2)

@@ -1,0 +1,101 @@
+-- Laws of the small program's runs: whatever the pieces, all that is said is what is said by the input, and every run ends.
+-- Assumes nothing.
+use Prim.Native.Nat.{ℕ, zero, suc, _+_, _-_, _*_, _≤_, _<_}
+use native.Mathlib.Omega.{arith}
+use mathlib.Core.Path.{_≡_, refl, sym, ap, subst, _∙_}
+use mathlib.Core.Bool.{Bool, true, false, cond}
+use mathlib.Core.List.{List, [], _∷_, _++_, append-assoc, append-nil}
+use lib.Dec.{T}
+use lib.ListN.{length, take, drop, length-append, length-drop, take-append-drop}
+use lib.Seq.{length-take-le}
+use Rattle.program.specs.Runs.{Desk, atFirst, turnAt, afterRead, afterEnd, afterSay, Goes, reads, ends, says, Says, last, stops, onward}
+use Rattle.program.specs.Said.{saidBy, saidIn}
+use Rattle.program.specs.Turn.{Turned}
+use Rattle.program.specs.TurnLaws.{Means, turn-means}
+use Rattle.program.specs.declared.Turn.{Turn}
+use Rattle.program.specs.declared.Turn.the-variants.{Read, Say, Last, Stop}
+
+-- once the end is met nothing is still to come
+abbrev Over : Desk → Type 0
+Over d = T (d .ended) → d .rest ≡ []
+
+-- what is said in all: what is said so far, and what is said to all that is left
+abbrev inAll : Desk → List ℕ
+inAll d = d .said ++ saidIn (d .opened) (d .words) (d .read ++ d .rest)
+
+module _ (d : Desk) (o : Over d) where
+  -- what the turn tells, once it is known
+  means : (t : Turn) → turnAt d .turn ≡ t → Means (d .words) (d .read) (d .rest) (d .ended) (d .opened) o t (turnAt d)
+  means t e =
+      subst (λ (x : Turn). Means (d .words) (d .read) (d .rest) (d .ended) (d .opened) o x (turnAt d)) e
+      (turn-means (d .words) (d .read) (d .rest) (d .ended) (d .opened) o)
+
+  said-last : (k : ℕ) → turnAt d .turn ≡ Last k → d .said ++ turnAt d .says ≡ inAll d
+  said-last k e = ap (λ (l : List ℕ). d .said ++ l) (sym (means (Last k) e .0))
+
+  said-stop : turnAt d .turn ≡ Stop → d .said ≡ inAll d
+  said-stop e = sym (ap (λ (l : List ℕ). d .said ++ l) (means Stop e) ∙ append-nil (d .said))
+
+  said-read : (k : ℕ) → inAll (afterRead d k) ≡ inAll d
+  said-read k =
+      ap (λ (l : List ℕ). d .said ++ saidIn (d .opened) (d .words) l)
+      (append-assoc (d .read) (take k (d .rest)) (drop k (d .rest)) ∙ ap (λ (l : List ℕ). d .read ++ l) (take-append-drop k (d .rest)))
+
+  said-say : (used k : ℕ) → turnAt d .turn ≡ Say used k → inAll (afterSay d used) ≡ inAll d
+  said-say used k e =
+      append-assoc (d .said) (turnAt d .says) (saidIn true (turnAt d .words) (drop used (d .read) ++ d .rest))
+      ∙ ap (λ (l : List ℕ). d .said ++ l) (sym (means (Say used k) e .0))
+
+  -- a step keeps what is said in all, and the end once met
+  over-read : (n k : ℕ) → turnAt d .turn ≡ Read n → Over (afterRead d k)
+  over-read n k e t = absurd (subst T (means (Read n) e .0) t)
+
+-- Whatever the pieces: all that is said by the time the program stops is what is said in all.
+all-said : {d : Desk} {all : List ℕ} → Over d → Says d all → all ≡ inAll d
+all-said {d} o (last k e) = said-last d o k e
+all-said {d} o (stops e) = said-stop d o e
+all-said {d} o (onward (reads n k e lo hi s) r) = all-said (over-read d o n k e) r ∙ said-read d o k
+all-said {d} o (onward (ends n e s) r) = all-said (λ t. s) r
+all-said {d} o (onward (says used k e) r) = all-said o r ∙ said-say d o used k e
+
+pub program-says : (words input all : List ℕ) → Says (atFirst words input) all → all ≡ saidBy words input
+program-says words input all r = all-said (λ t. absurd t) r
+
+-- how much is left to do: two for each byte that is still to come, one for each that is read, one for the end
+abbrev pub left : Desk → ℕ
+left d = 2 * length (d .rest) + length (d .read) + cond (d .ended) 0 1
+
+less-end : (a b : ℕ) (c : Bool) → c ≡ false → a + b + 0 < a + b + cond c 0 1
+less-end a b true e = absurd (subst T e tt)
+less-end a b false e = omega arith
+
+-- every step leaves less to do, so every run ends
+pub goes-down : {d d′ : Desk} → Over d → Goes d d′ → left d′ < left d
+goes-down {d} o (reads n k e lo hi s) =
+    omega (arith, length-append (d .read) (take k (d .rest)), length-take-le k (d .rest) s, length-drop k (d .rest))
+goes-down {d} o (ends n e s) = less-end (2 * length (d .rest)) (length (d .read)) (d .ended) (means d o (Read n) e .0)
+goes-down {d} o (says used k e) = let m = means d o (Say used k) e in omega (arith, length-drop used (d .read), m .1, m .2)
+
+-- and there is one from every desk: the program never hangs
+some-run : (m : ℕ) (d : Desk) → Over d → left d < m → (all : List ℕ) × Says d all
+some-run zero d o h = absurd (omega arith)
+some-run (suc m) d o h = go (λ d′ o′ s. some-run m d′ o′ (omega (arith, h, goes-down o s))) (turnAt d .turn) refl
+  where
+    -- a run goes on after a step
+    then : ((d′ : Desk) → Over d′ → Goes d d′ → (all : List ℕ) × Says d′ all) → (d′ : Desk) → Over d′ → Goes d d′ → (all : List ℕ) × Says d all
+    then more d′ o′ s = let r = more d′ o′ s in (r .0, onward s (r .1))
+
+    read : ((d′ : Desk) → Over d′ → Goes d d′ → (all : List ℕ) × Says d′ all) → (n : ℕ) → turnAt d .turn ≡ Read n → (rest : List ℕ) → d .rest ≡ rest
+        → (all : List ℕ) × Says d all
+    read more n e [] q = then more (afterEnd d) (λ t. q) (ends n e q)
+    read more n e (x ∷ rest) q =
+        then more (afterRead d 1) (over-read d o n 1 e) (reads n 1 e (omega arith) (omega (arith, means d o (Read n) e .1)) (omega (arith, ap length q)))
+
+    go : ((d′ : Desk) → Over d′ → Goes d d′ → (all : List ℕ) × Says d′ all) → (t : Turn) → turnAt d .turn ≡ t → (all : List ℕ) × Says d all
+    go more (Read n) e = read more n e (d .rest) refl
+    go more (Say used k) e = then more (afterSay d used) o (says used k e)
+    go more (Last k) e = (d .said ++ turnAt d .says, last k e)
+    go more Stop e = (d .said, stops e)
+
+pub program-ends : (words input : List ℕ) → (all : List ℕ) × Says (atFirst words input) all
+program-ends words input = some-run (suc (left (atFirst words input))) (atFirst words input) (λ t. absurd t) (omega arith)
