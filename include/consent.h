@@ -33,8 +33,9 @@ uint64_t consent_open(uint64_t *book, size_t words, uint64_t screen, uint64_t sc
  * `reply`, puts the book in order and returns the reply's length. A refusal is a reply of two bytes, 09 and its
  * number, and changes nothing in the book: 11 for a damaged book or one of wrong length, then 1 for bytes that are no
  * such message, then the others in their order.
- * Returns 0, and changes nothing, when `room` is too short: below consent_reply_room for the message or, for bytes that
- * start with 12, below the length of the very reply: that of the gossip for a send, and 2 for a refusal.
+ * Returns 0 exactly when `room` is below the length of the very reply; then neither book nor reply changes, and a tap
+ * or gossip that would be taken is not. So two bytes hold every refusal and a wait, 5 gossip taken, 33 a tap taken or
+ * already there, 44 a verdict, and a send needs its very message: 37, and 47 for each record of the log.
  */
 size_t consent_answer(uint64_t *book, size_t words, const uint8_t *message, size_t length, uint8_t *reply, size_t room);
 
@@ -46,7 +47,7 @@ bool consent_permission(const uint64_t *book, size_t words, const uint8_t *messa
 
 /*
  * The greatest length of the reply to a request, by its byte of kind: 5 for gossip, 33 for a tap, 44 for a question,
- * 12069 for a send, and 2 for anything else.
+ * 12069 for a send, and 2 for anything else. With that much room consent_answer never returns 0.
  */
 size_t consent_reply_room(const uint8_t *message, size_t length);
 

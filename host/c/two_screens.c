@@ -11,17 +11,22 @@ static uint8_t reply[LONGEST];
 
 static void show(const char *what, size_t length)
 {
-    printf("%s: %zu bytes,", what, length);
+    printf("%s: %zu bytes%s", what, length, length > 0 ? "," : "");
     for (size_t at = 0; at < length && at < 12; at++)
         printf(" %02x", reply[at]);
     printf(length > 12 ? " ..\n" : "\n");
 }
 
-static size_t answer(int screen, const char *what, const uint8_t *message, size_t length)
+static size_t answer_in(size_t room, int screen, const char *what, const uint8_t *message, size_t length)
 {
-    size_t written = consent_answer(books[screen], WORDS, message, length, reply, sizeof reply);
+    size_t written = consent_answer(books[screen], WORDS, message, length, reply, room);
     show(what, written);
     return written;
+}
+
+static size_t answer(int screen, const char *what, const uint8_t *message, size_t length)
+{
+    return answer_in(sizeof reply, screen, what, message, length);
 }
 
 /* Prompt 7, with a label that names the first so many taps of the front screen. */
@@ -58,10 +63,18 @@ int main(void)
     answer(REAR, "gossip again", gossip, length);
     ask(REAR, "rear screen", 2);
 
-    /* Damage is seen, and too little room changes nothing. */
-    printf("room asked: %zu, room 2: %zu\n", consent_reply_room(tap, sizeof tap),
-           consent_answer(books[REAR], WORDS, tap, sizeof tap, reply, 2));
+    /* A new tap whose reply has no room is not taken. */
+    tap[5] = 2;
+    printf("always enough for a tap: %zu\n", consent_reply_room(tap, sizeof tap));
+    answer_in(32, REAR, "new tap, room 32", tap, sizeof tap);
+    answer_in(33, REAR, "new tap, room 33", tap, sizeof tap);
+    answer_in(33, REAR, "same tap, room 33", tap, sizeof tap);
+
+    /* Two bytes hold every refusal, also that of a damaged book. */
+    tap[9] = 3;
+    answer_in(2, REAR, "no such answer, room 2", tap, sizeof tap);
     books[REAR][1] = 9;
+    answer_in(2, REAR, "damaged screen, room 2", tap, sizeof tap);
     ask(REAR, "damaged screen", 2);
     return 0;
 }

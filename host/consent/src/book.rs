@@ -5,7 +5,7 @@ use crate::ffi;
 use crate::message::{is_gossip, Reply, Request};
 use crate::values::{Question, Refusal, Stamp, Standing, Tap};
 
-/// The longest reply to a tap, a question or gossip.
+/// The longest reply to a tap, a question or gossip: room enough for each.
 const SHORT_REPLY: usize = 44;
 
 /// The book of one screen, which owns its memory.

@@ -33,8 +33,10 @@ pub fn open(book: &mut [u64], screen: u64, screens: u64) -> u64 {
     unsafe { library::consent_open(book.as_mut_ptr(), book.len(), screen, screens) }
 }
 
-/// Answers one whole message of kind 1, 3, 4 or 12 and gives the reply's length; 0 when the reply is too short, which
-/// changes nothing.
+/// Answers one whole message of kind 1, 3, 4 or 12 at the front of `reply` and gives the reply's length.
+///
+/// 0 exactly when the very reply is longer than `reply`: then nothing changes, and a tap or gossip that would be taken
+/// is not. Two bytes hold every refusal; [`reply_room`] is always enough.
 pub fn answer(book: &mut [u64], message: &[u8], reply: &mut [u8]) -> usize {
     let (message_at, reply_at) = (message.as_ptr(), reply.as_mut_ptr());
     // SAFETY: pointers and lengths are the slices' own, and the slices do not overlap.
@@ -56,7 +58,7 @@ pub fn permission(book: &[u64], message: &[u8]) -> bool {
     unsafe { library::consent_permission(book.as_ptr(), book.len(), message.as_ptr(), message.len()) }
 }
 
-/// The greatest length of the reply to a request.
+/// The greatest length of the reply to a request, by its byte of kind: with that much room [`answer`] never gives 0.
 pub fn reply_room(message: &[u8]) -> usize {
     // SAFETY: pointer and length are the slice's own.
     unsafe { library::consent_reply_room(message.as_ptr(), message.len()) }

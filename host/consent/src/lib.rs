@@ -56,7 +56,8 @@ pub use values::{Answer, Question, Record, Refusal, Stamp, Standing, Tap, Verdic
 
 /// The library's six functions over memory that the caller lends.
 ///
-/// None of them asks anything of its arguments: any words, any bytes and any lengths are judged and answered.
+/// None of them asks anything of its arguments: any words, any bytes and any lengths are judged and answered. An
+/// [`answer`](lent::answer) of length 0 is one whose reply has no room; it changes nothing.
 pub mod lent {
     pub use crate::ffi::{answer, book_words, open, permission, reply_kind, reply_room};
 }

@@ -89,6 +89,50 @@ fn a_damaged_book_is_refused() {
     assert_eq!(short.contents(), None);
 }
 
+/// The reply in just so much room; one byte less says nothing and changes nothing.
+#[track_caller]
+fn just_in(room: usize, book: &Book, request: Request) -> Reply {
+    let (message, before) = (request.encode(), book.words());
+    let (mut words, mut reply) = (before.to_vec(), vec![0xee; room]);
+    assert_eq!(lent::answer(&mut words, &message, &mut reply[1..]), 0);
+    assert!(words == before && reply == vec![0xee; room]);
+    assert_eq!(lent::answer(&mut words, &message, &mut reply), room);
+    Reply::decode(&reply).expect("a reply")
+}
+
+#[test]
+fn room_is_judged_by_the_very_reply() {
+    let (zero, one) = (after_b(), Book::open(1, 3).unwrap());
+    let news = after_b().send().unwrap();
+    let tap_c = Tap { serial: 3, ..TAP_A };
+    let standing = Standing { verdict: Verdict::Contested, showing: 1, accepts: 1, declines: 1 };
+    assert_eq!(just_in(33, &zero, Request::Tap(tap_c, Stamp::ZERO)), Reply::Taken(stamp(3, 0, 0)));
+    assert_eq!(just_in(33, &zero, Request::Tap(TAP_A, Stamp::ZERO)), Reply::Already(stamp(2, 0, 0)));
+    assert_eq!(
+        just_in(44, &zero, Request::Question(at(Stamp::ZERO))),
+        Reply::Verdict(standing, stamp(2, 0, 0))
+    );
+    assert_eq!(just_in(2, &zero, Request::Question(at(stamp(0, 1, 0)))), Reply::Wait(0x02));
+    assert_eq!(just_in(5, &one, Request::Gossip(&news)), Reply::GossipTaken { new: 2, applied: 2 });
+    assert_eq!(just_in(37, &one, Request::Send), Reply::Gossip(one.clone().send().unwrap()));
+    assert_eq!(just_in(37 + 2 * 47, &zero, Request::Send), Reply::Gossip(news));
+}
+
+#[test]
+fn two_bytes_hold_every_refusal() {
+    let book = after_b();
+    let news = after_b().send().unwrap();
+    let damaged = Book::from_words(vec![0; book.words().len()]);
+    let ahead = Request::Tap(TAP_A, stamp(3, 0, 0));
+    assert_eq!(just_in(2, &book, ahead), Reply::Refused(Refusal::LabelAhead));
+    assert_eq!(just_in(2, &book, Request::Question(at(stamp(3, 0, 0)))), Reply::Refused(Refusal::LabelAhead));
+    assert_eq!(just_in(2, &book, Request::Gossip(&news)), Reply::Refused(Refusal::WrongHouse));
+    assert_eq!(just_in(2, &book, Request::Gossip(&news[..36])), Reply::Refused(Refusal::Malformed));
+    for request in [ahead, Request::Question(at(Stamp::ZERO)), Request::Gossip(&news), Request::Send] {
+        assert_eq!(just_in(2, &damaged, request), Reply::Refused(Refusal::Unsound));
+    }
+}
+
 #[test]
 fn every_request_has_one_writing() {
     let gossip = after_b().send().unwrap();

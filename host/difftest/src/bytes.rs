@@ -2,8 +2,6 @@
 
 use crate::view::Stamp;
 
-pub const HEAD_BYTES: usize = 37;
-pub const RECORD_BYTES: usize = 47;
 pub const SEND: [u8; 1] = [12];
 
 /// A tap's fields, in range or not.

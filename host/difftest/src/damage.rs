@@ -5,6 +5,7 @@ use crate::bytes;
 use crate::forge::{self, Variety};
 use crate::pair::{Books, Pair, UNSOUND};
 use crate::random::Random;
+use crate::rooms;
 use crate::view::View;
 
 /// In how many ways a word is damaged.
@@ -81,13 +82,13 @@ fn ask(pair: &mut Pair, random: &mut Random, books: &mut Books, view: View) -> R
     if random.once_in(4) {
         pair.permission(books, &message)?;
     }
-    if answer(pair, books, &message)? != UNSOUND && answer(pair, books, &bytes::SEND)? == UNSOUND {
+    let reply = rooms::answer(pair, random, books, &message)?;
+    // Nothing is said in too little room, of whatever book.
+    if reply.is_empty() || reply == UNSOUND {
+        return Ok(());
+    }
+    if rooms::answer_in_enough(pair, books, &bytes::SEND)? == UNSOUND {
         return Err(format!("{} left an unsound book", bytes::hex(&message)));
     }
     Ok(())
-}
-
-fn answer(pair: &mut Pair, books: &mut Books, message: &[u8]) -> Result<Vec<u8>, String> {
-    let room = pair.reply_room(message)?;
-    pair.answer(books, message, room)
 }

@@ -6,7 +6,7 @@ pub trait Engine {
     fn book_words(&self) -> usize;
     /// Writes a fresh book; 0, or the refusal's number.
     fn open(&self, book: &mut [u64], screen: u64, screens: u64) -> u64;
-    /// Answers one message; the reply's length, or 0 when it does not fit.
+    /// Answers one message; the reply's length, or 0, with nothing changed, when it does not fit.
     fn answer(&self, book: &mut [u64], message: &[u8], reply: &mut [u8]) -> usize;
     /// Yes or no for a question.
     fn permission(&self, book: &[u64], message: &[u8]) -> bool;

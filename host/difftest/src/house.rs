@@ -4,6 +4,7 @@ use crate::bytes;
 use crate::forge::{self, Variety};
 use crate::pair::{Books, Pair, UNSOUND};
 use crate::random::Random;
+use crate::rooms;
 use crate::view::{View, KNOWN_ROOM, LOG_ROOM};
 
 /// How many sent messages are on their way at most; a new one then pushes an old one out, which is lost.
@@ -53,21 +54,15 @@ impl House {
         loop {
             let view = View(&self.books[screen].right);
             let filling = forge::filling(random, view, LOG_ROOM.min(goal - view.known_sum()));
-            self.ask(pair, screen, &filling)?;
+            rooms::answer_in_enough(pair, &mut self.books[screen], &filling)?;
             if View(&self.books[screen].right).known_sum() >= goal {
                 return Ok(());
             }
             for sender in 0..self.books.len() {
                 let acknowledged = forge::acknowledgement(View(&self.books[screen].right), sender);
-                self.ask(pair, screen, &acknowledged)?;
+                rooms::answer_in_enough(pair, &mut self.books[screen], &acknowledged)?;
             }
         }
-    }
-
-    fn ask(&mut self, pair: &mut Pair, screen: usize, message: &[u8]) -> Result<(), String> {
-        let room = pair.reply_room(message)?;
-        pair.answer(&mut self.books[screen], message, room)?;
-        Ok(())
     }
 
     /// One thing happens on one screen.
@@ -77,12 +72,11 @@ impl House {
         if random.once_in(25) {
             forge::damage(random, &mut message);
         }
-        let room = self.room(pair, random, &message)?;
         let books = &mut self.books[screen];
         if message.first() == Some(&4) || random.once_in(10) {
             pair.permission(books, &message)?;
         }
-        let reply = pair.answer(books, &message, room)?;
+        let reply = rooms::answer(pair, random, books, &message)?;
         if reply == UNSOUND {
             return Err(format!("the book of screen {screen} became unsound"));
         }
@@ -145,16 +139,5 @@ impl House {
             self.mail.remove(random.below(MAIL_ROOM));
         }
         self.mail.push(message);
-    }
-
-    /// The room lent for a reply: enough, or now and then about the least that will do.
-    fn room(&self, pair: &Pair, random: &mut Random, message: &[u8]) -> Result<usize, String> {
-        let most = pair.reply_room(message)?;
-        if !random.once_in(16) {
-            return Ok(most);
-        }
-        let logged = self.books[random.below(self.books.len())].right[2] as usize;
-        let sent = bytes::HEAD_BYTES + bytes::RECORD_BYTES * logged;
-        Ok(random.pick(&[0, 1, 2, most - 1, most + 1, sent - 1, sent]))
     }
 }

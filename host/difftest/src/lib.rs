@@ -20,6 +20,7 @@ mod house;
 mod pair;
 mod random;
 mod replies;
+mod rooms;
 mod run;
 mod view;
 

@@ -22,10 +22,14 @@ pub struct Pair<'a> {
     /// How often each reply was given, by its byte of kind; refusals by their number in `refused`.
     pub replied: [usize; 16],
     pub refused: [usize; 16],
+    /// How often a reply of each kind had too little room, by its byte of kind.
+    pub left_out: [usize; 16],
+    /// How often a request of each kind was answered in less room than its longest reply takes.
+    pub tight: [usize; 16],
 }
 
 /// One screen's book on both sides.
-#[derive(Clone)]
+#[derive(Clone, PartialEq, Eq)]
 pub struct Books {
     pub left: Vec<u64>,
     pub right: Vec<u64>,
@@ -68,7 +72,8 @@ impl Books {
 
 impl<'a> Pair<'a> {
     pub fn new(left: &'a dyn Engine, right: &'a dyn Engine) -> Pair<'a> {
-        Pair { left, right, messages: 0, replied: [0; 16], refused: [0; 16] }
+        let none = [0; 16];
+        Pair { left, right, messages: 0, replied: none, refused: none, left_out: none, tight: none }
     }
 
     /// Opens a book on both sides over the words that are there.
@@ -85,8 +90,10 @@ impl<'a> Pair<'a> {
         let (mut left, mut right) = (vec![UNTOUCHED; room], vec![UNTOUCHED; room]);
         let length = self.left.answer(&mut books.left, message, &mut left);
         let other = self.right.answer(&mut books.right, message, &mut right);
-        let compared =
-            same(length, other).and_then(|()| same_bytes(&left, &right)).and_then(|()| books.compare());
+        let compared = same(length, other)
+            .and_then(|()| same_bytes(&left, &right))
+            .and_then(|()| untouched(left.get(length..)))
+            .and_then(|()| books.compare());
         compared.map_err(|what| format!("{} with room {room}: {what}", hex(message)))?;
         left.truncate(length);
         self.read(&left)?;
@@ -132,6 +139,15 @@ impl<'a> Pair<'a> {
         same(read, kind).map_err(|what| format!("reply {} is read as another: {what}", hex(reply)))
     }
 
+    /// Counts a request that was asked in that room, and whose very reply is known.
+    pub fn note_room(&mut self, message: &[u8], very: &[u8], room: usize) {
+        if room < very.len() {
+            self.left_out[usize::from(very[0] & 15)] += 1;
+        } else if room < self.left.reply_room(message) {
+            self.tight[usize::from(message[0] & 15)] += 1;
+        }
+    }
+
     fn note(&mut self, reply: &[u8]) {
         self.messages += 1;
         match *reply {
@@ -139,6 +155,15 @@ impl<'a> Pair<'a> {
             [kind, ..] => self.replied[usize::from(kind & 15)] += 1,
             [] => self.refused[12] += 1,
         }
+    }
+}
+
+/// What is past the reply stays.
+fn untouched(past: Option<&[u8]>) -> Result<(), String> {
+    match past {
+        Some(past) if past.iter().all(|&byte| byte == UNTOUCHED) => Ok(()),
+        Some(past) => Err(format!("past the reply {} is written", hex(past))),
+        None => Err("the reply is longer than its room".into()),
     }
 }
 

@@ -29,6 +29,10 @@ pub struct Report {
     pub replied: [usize; 16],
     /// How often each refusal was given, by its number.
     pub refused: [usize; 16],
+    /// How often each kind of reply had too little room.
+    pub left_out: [usize; 16],
+    /// How often each kind of request was answered in less room than its longest reply takes.
+    pub tight: [usize; 16],
 }
 
 impl Default for Plan {
@@ -69,7 +73,8 @@ pub fn run(plan: &Plan, tested: &dyn Engine, opinion: &dyn Engine) -> Result<Rep
         })?;
         houses += 1;
     }
-    Ok(Report { messages: pair.messages, houses, replied: pair.replied, refused: pair.refused })
+    let Pair { messages, replied, refused, left_out, tight, .. } = pair;
+    Ok(Report { messages, houses, replied, refused, left_out, tight })
 }
 
 fn one_house(pair: &mut Pair, random: &mut Random, sweep: bool) -> Result<(), String> {

@@ -22,6 +22,15 @@ macro_rules! slip {
 
 include!(concat!(env!("OUT_DIR"), "/slips.rs"));
 
+/// The slips about room for a reply.
+const OF_ROOM: [&str; 5] = [
+    "room_for_longest",
+    "tap_without_room_taken",
+    "gossip_without_room_taken",
+    "short_output_said",
+    "short_send_writes",
+];
+
 #[test]
 fn every_slip_is_found() {
     let mut missed = Vec::new();
@@ -34,4 +43,14 @@ fn every_slip_is_found() {
         }
     }
     assert!(missed.is_empty(), "not found: {missed:?}");
+}
+
+/// What is due in a room follows from the very reply, so that both sides cannot slip alike.
+#[test]
+fn slips_of_room_are_found_on_both_sides_at_once() {
+    for wanted in OF_ROOM {
+        let (_, what, slipped) = SLIPS.iter().find(|(name, ..)| *name == wanted).expect(wanted);
+        let found = run(&Plan::default(), slipped, slipped).expect_err(what);
+        println!("{wanted}: seed {:#x}, after {} messages", found.seed, found.after);
+    }
 }

@@ -24,30 +24,10 @@ pub fn open(words: &mut [u64], screen: u64, screens: u64) -> u64 {
     }
 }
 
-/// Answers one whole message of kind 1, 3, 4 or 12; the reply's length, or 0 when it does not fit.
+/// Answers one whole message of kind 1, 3, 4 or 12; the reply's length, or 0, with nothing changed, when the very reply
+/// does not fit.
 pub fn answer(words: &mut [u64], message: &[u8], reply: &mut [u8]) -> usize {
-    if reply.len() < least_room(message) {
-        return 0;
-    }
-    let Some(mut book) = Book::from_words(words) else {
-        return Reply::Refused(Refusal::Unsound).write(reply);
-    };
-    let Some(request) = Request::parse(message, book.screens()) else {
-        return Reply::Refused(Refusal::Malformed).write(reply);
-    };
-    let answer = match request {
-        Request::Send => return book.send(reply).unwrap_or(0),
-        Request::Question { prompt, label } => book.question(prompt, label).map(Reply::Question),
-        Request::Tap { tap, label } => book.tap(tap, label).map(Reply::Tap),
-        Request::Gossip(gossip) => {
-            book.gossip(&gossip).map(|(new, applied)| Reply::GossipTaken { new, applied })
-        }
-    };
-    let answer = answer.unwrap_or_else(Reply::Refused);
-    if changes(&answer) {
-        book.store(words);
-    }
-    answer.write(reply)
+    answer_fitting(words, message, reply).unwrap_or(0)
 }
 
 /// Yes or no for a question; anything else is a no.
@@ -77,12 +57,29 @@ pub fn reply_kind(bytes: &[u8]) -> u8 {
     Reply::parse(bytes).map_or(0, |reply| reply.kind())
 }
 
-/// The room without which nothing is looked at. Send asks for its actual message later, when the log is known.
-fn least_room(message: &[u8]) -> usize {
-    match message.first() {
-        Some(&kind::SEND) => REFUSAL_BYTES,
-        _ => reply_room(message),
+/// Works the request out on a copy of the book, and keeps the copy only when its reply fits: the one error is
+/// [`Refusal::ShortOutput`].
+fn answer_fitting(words: &mut [u64], message: &[u8], reply: &mut [u8]) -> Result<usize, Refusal> {
+    let Some(mut book) = Book::from_words(words) else {
+        return Reply::Refused(Refusal::Unsound).write(reply);
+    };
+    let Some(request) = Request::parse(message, book.screens()) else {
+        return Reply::Refused(Refusal::Malformed).write(reply);
+    };
+    let answer = match request {
+        Request::Send => return book.send(reply),
+        Request::Question { prompt, label } => book.question(prompt, label).map(Reply::Question),
+        Request::Tap { tap, label } => book.tap(tap, label).map(Reply::Tap),
+        Request::Gossip(gossip) => {
+            book.gossip(&gossip).map(|(new, applied)| Reply::GossipTaken { new, applied })
+        }
+    };
+    let answer = answer.unwrap_or_else(Reply::Refused);
+    let length = answer.write(reply)?;
+    if changes(&answer) {
+        book.store(words);
     }
+    Ok(length)
 }
 
 /// Whether an answer means that the book is another than before.

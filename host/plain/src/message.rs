@@ -195,25 +195,35 @@ impl Reply {
         }
     }
 
+    /// Its length as a message.
+    pub fn length(&self) -> usize {
+        let body = match self {
+            Reply::Tap(_) => STAMP_BYTES,
+            Reply::Question(QuestionAnswer::Verdict { .. }) => STANDING_BYTES + STAMP_BYTES,
+            Reply::Question(QuestionAnswer::Wait { .. }) | Reply::Refused(_) => 1,
+            Reply::GossipTaken { .. } => 4,
+        };
+        1 + body
+    }
+
     /// Writes the reply at the front of `out`; answers its length.
-    ///
-    /// # Panics
-    ///
-    /// When `out` is shorter than the reply.
-    pub fn write(&self, out: &mut [u8]) -> usize {
+    pub fn write(&self, out: &mut [u8]) -> Result<usize, Refusal> {
+        let out = out.get_mut(..self.length()).ok_or(Refusal::ShortOutput)?;
+        let (kind, body) = out.split_first_mut().expect("a reply has a byte of kind");
+        *kind = self.kind();
         match self {
-            Reply::Tap(TapAnswer::Taken(stamp)) => write_stamped(kind::TAKEN, stamp, out),
-            Reply::Tap(TapAnswer::Already(stamp)) => write_stamped(kind::ALREADY, stamp, out),
+            Reply::Tap(TapAnswer::Taken(stamp) | TapAnswer::Already(stamp)) => write_stamp(stamp, body),
             Reply::Question(QuestionAnswer::Verdict { verdict, prompt, value }) => {
-                write_verdict(*verdict as u8, prompt, value, out)
+                write_verdict(*verdict as u8, prompt, value, body)
             }
-            Reply::Question(QuestionAnswer::Wait { lacking }) => put(&[kind::WAIT, *lacking], out),
-            Reply::Refused(refusal) => put(&[kind::REFUSAL, refusal.number()], out),
+            Reply::Question(QuestionAnswer::Wait { lacking }) => body[0] = *lacking,
+            Reply::Refused(refusal) => body[0] = refusal.number(),
             Reply::GossipTaken { new, applied } => {
-                let ([a, b], [c, d]) = (new.to_be_bytes(), applied.to_be_bytes());
-                put(&[kind::GOSSIP_TAKEN, a, b, c, d], out)
+                body[..2].copy_from_slice(&new.to_be_bytes());
+                body[2..].copy_from_slice(&applied.to_be_bytes());
             }
         }
+        Ok(self.length())
     }
 }
 
@@ -250,32 +260,18 @@ fn read_record(bytes: &[u8]) -> Option<Record> {
     })
 }
 
-fn put(bytes: &[u8], out: &mut [u8]) -> usize {
-    out[..bytes.len()].copy_from_slice(bytes);
-    bytes.len()
-}
-
 fn write_stamp(stamp: &Stamp, out: &mut [u8]) {
     for (part, bytes) in stamp.0.iter().zip(out.chunks_exact_mut(4)) {
         bytes.copy_from_slice(&part.to_be_bytes());
     }
 }
 
-fn write_stamped(kind: u8, stamp: &Stamp, out: &mut [u8]) -> usize {
-    let out = &mut out[..1 + STAMP_BYTES];
-    out[0] = kind;
-    write_stamp(stamp, &mut out[1..]);
-    out.len()
-}
-
-fn write_verdict(verdict: u8, prompt: &Prompt, value: &Stamp, out: &mut [u8]) -> usize {
-    let out = &mut out[..12 + STAMP_BYTES];
-    out[..2].copy_from_slice(&[kind::VERDICT, verdict]);
-    out[2..4].copy_from_slice(&prompt.showing.to_be_bytes());
-    out[4..8].copy_from_slice(&prompt.accepts.to_be_bytes());
-    out[8..12].copy_from_slice(&prompt.declines.to_be_bytes());
-    write_stamp(value, &mut out[12..]);
-    out.len()
+fn write_verdict(verdict: u8, prompt: &Prompt, value: &Stamp, out: &mut [u8]) {
+    out[0] = verdict;
+    out[1..3].copy_from_slice(&prompt.showing.to_be_bytes());
+    out[3..7].copy_from_slice(&prompt.accepts.to_be_bytes());
+    out[7..STANDING_BYTES].copy_from_slice(&prompt.declines.to_be_bytes());
+    write_stamp(value, &mut out[STANDING_BYTES..]);
 }
 
 fn write_record(record: &Record, out: &mut [u8]) {

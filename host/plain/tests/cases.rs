@@ -245,17 +245,6 @@ fn whole_case() {
 }
 
 #[test]
-fn short_output_changes_nothing() {
-    let mut words = open(0, 2).words();
-    let before = words.clone();
-    let mut tap = vec![3, 5, 0, 0, 0, 1, 7, 0, 1, 1];
-    tap.extend([0; 32]);
-    assert_eq!(entry::answer(&mut words, &tap, &mut [0; 32]), 0);
-    assert_eq!(entry::answer(&mut words, &[12], &mut [0; 36]), 0);
-    assert_eq!(words, before);
-}
-
-#[test]
 fn unsound_stands_before_unreadable() {
     let mut words = open(0, 2).words();
     let mut reply = [0; 44];
