@@ -49,7 +49,7 @@ gossip-settled (a ∷ b ∷ c ∷ []) more t = absurd t
 gossip-settled (a ∷ b ∷ c ∷ d ∷ []) more t = absurd t
 gossip-settled (a ∷ b ∷ c ∷ d ∷ e ∷ rest) more t = five-tell a b c d e (rest ++ more) rest
 
-gossip-short : (read : List ℕ) (n : ℕ) → gossipFrame read ≡ More n → (length read < n) × (n ≤ countEnd)
+pub gossip-short : (read : List ℕ) (n : ℕ) → gossipFrame read ≡ More n → (length read < n) × (n ≤ countEnd)
 unfolding gossipFrame
 gossip-short read n = go (ltb (length read) countEnd) refl (ltb logRoom (countIn read))
   where
@@ -68,7 +68,7 @@ gossip-long read n = go (ltb (length read) countEnd) (ltb logRoom (countIn read)
     go false false s e = let z : headLong + countIn read * recordLong ≡ n = cc in (omega arith, omega (arith, ltb-false logRoom (countIn read) s))
 
 -- the other kinds
-body-settled : (b : Body) (n : ℕ) → bodyFrame b ≡ More n → ⊥
+pub body-settled : (b : Body) (n : ℕ) → bodyFrame b ≡ More n → ⊥
 body-settled (Long m) n e = let z : _≡_ {A = ℕ} 0 1 = cc in omega arith
 body-settled (Bad r) n e = let z : _≡_ {A = ℕ} 0 1 = cc in omega arith
 

@@ -2,7 +2,8 @@
 --     framed       a message that is all there has told its count, and has its records
 --     next-whole   the next message has at least one byte, and all of it is read
 --     next-more    more bytes are asked for only while fewer are read, and never more than the longest message has
---     next-settled   a message or a stop, once told, stays whatever comes
+--     next-settled a message or a stop, once told, stays whatever comes
+--     next-least   no message has fewer bytes than were asked for
 use Prim.Native.Nat.{ℕ, _+_, _*_, _≤_, _<_}
 use native.Mathlib.Omega.{arith}
 use mathlib.Core.Path.{_≡_, refl, sym, ap, subst, _∙_}
@@ -18,7 +19,7 @@ use Rattle.wire.specs.Kinds.{bodyOf, headLong, longest, recordLong}
 use Rattle.frames.specs.declared.Frame.{Frame}
 use Rattle.frames.specs.declared.Frame.the-variants.{More, Whole, Stop}
 use Rattle.frames.specs.Frame.{expected, countIn, countEnd, gossipFrame, bodyFrame, frameOf}
-use Rattle.frames.specs.FrameLaws.{told, settled, more-short, whole-long}
+use Rattle.frames.specs.FrameLaws.{told, settled, gossip-short, body-settled, more-short, whole-long}
 use Rattle.frames.specs.Next.{recordsStand, Framed, kindsStand, nextBy, nextOf}
 
 gossip-framed : (read : List ℕ) (n : ℕ) → gossipFrame read ≡ Whole n → (countEnd ≤ length read) × (countIn read ≤ logRoom) × (headLong + countIn read * recordLong ≡ n)
@@ -115,3 +116,45 @@ next-settled read more opened = go (frameOf read opened) refl
     go (More m) e t = absurd t
     go (Whole m) e t = ap (λ (f : Frame). nextBy f (read ++ more)) (later (Whole m) e tt) ∙ whole m e (ltb (length read) m) refl t
     go Stop e t = ap (λ (f : Frame). nextBy f (read ++ more)) (later Stop e tt)
+
+-- no message has fewer bytes than were asked for
+frame-least : (read more : List ℕ) (opened : Bool) (n m : ℕ) → frameOf read opened ≡ More n → frameOf (read ++ more) opened ≡ Whole m → n ≤ m
+unfolding frameOf
+frame-least [] more opened n m e f = let z : 1 ≡ n = cc in omega (arith, whole-long more opened m f .0)
+frame-least (k ∷ rest) more opened n m e f = go (expected opened k) (eqb k 1) e f
+  where
+    go : (p q : Bool) → cond p (cond q (gossipFrame (k ∷ rest)) (bodyFrame (bodyOf k))) Stop ≡ More n
+        → cond p (cond q (gossipFrame (k ∷ rest ++ more)) (bodyFrame (bodyOf k))) Stop ≡ Whole m → n ≤ m
+    go true true a b = omega (arith, gossip-short (k ∷ rest) n a .1, gossip-framed (k ∷ rest ++ more) m b .2)
+    go true false a b = absurd (body-settled (bodyOf k) n a)
+    go false q a b = let z : _≡_ {A = ℕ} 0 1 = cc in absurd (omega arith)
+
+pub next-least : (read more : List ℕ) (opened : Bool) (n m : ℕ) → nextOf read opened ≡ More n → nextOf (read ++ more) opened ≡ Whole m → n ≤ m
+unfolding nextOf
+next-least read more opened n m e f = go (frameOf read opened) refl e
+  where
+    framed-as : (g : Frame) → nextBy g (read ++ more) ≡ Whole m → g ≡ Whole m
+    framed-as (More k) q = let z : _≡_ {A = ℕ} 0 1 = cc in absurd (omega arith)
+    framed-as (Whole k) q = by (ltb (length (read ++ more)) k) (kindsStand (read ++ more)) q
+      where
+        by : (c d : Bool) → cond c (More k) (cond d (Whole k) Stop) ≡ Whole m → Whole k ≡ Whole m
+        by true d q = let z : _≡_ {A = ℕ} 0 1 = cc in absurd (omega arith)
+        by false true q = q
+        by false false q = let z : _≡_ {A = ℕ} 0 1 = cc in absurd (omega arith)
+    framed-as Stop q = let z : _≡_ {A = ℕ} 0 1 = cc in absurd (omega arith)
+
+    later : frameOf (read ++ more) opened ≡ Whole m
+    later = framed-as (frameOf (read ++ more) opened) f
+
+    whole : (k : ℕ) → frameOf read opened ≡ Whole k → (c d : Bool) → cond c (More k) (cond d (Whole k) Stop) ≡ More n → n ≤ m
+    whole k g true d q =
+        let z : k ≡ n = cc in
+        let s : Whole k ≡ Whole m = sym (settled read more opened (subst (λ (x : Frame). T (told x)) (sym g) tt) ∙ g) ∙ later in
+        let y : k ≡ m = cc in omega arith
+    whole k g false true q = let z : _≡_ {A = ℕ} 0 1 = cc in absurd (omega arith)
+    whole k g false false q = let z : _≡_ {A = ℕ} 0 1 = cc in absurd (omega arith)
+
+    go : (g : Frame) → frameOf read opened ≡ g → nextBy g read ≡ More n → n ≤ m
+    go (More k) g q = frame-least read more opened n m (g ∙ q) later
+    go (Whole k) g q = whole k g (ltb (length read) k) (kindsStand read) q
+    go Stop g q = let z : _≡_ {A = ℕ} 0 1 = cc in absurd (omega arith)

@@ -1,16 +1,27 @@
--- Laws of the small program's runs: whatever the pieces, all that is said is what is said by the input, and every run ends.
--- Assumes nothing.
+-- Laws of the small program's runs. Assumes nothing.
+--     program-says   whatever the pieces, all that is said is what is said by the input
+--     all-used       a message uses up all that is read
+--     goes-down      every step leaves less to do, so every run ends
+--     program-ends   and there is one for every input
 use Prim.Native.Nat.{ℕ, zero, suc, _+_, _-_, _*_, _≤_, _<_}
 use native.Mathlib.Omega.{arith}
 use mathlib.Core.Path.{_≡_, refl, sym, ap, subst, _∙_}
-use mathlib.Core.Bool.{Bool, true, false, cond}
+use mathlib.Core.Logic.{_⊎_, inl, inr}
+use mathlib.Core.Bool.{Bool, true, false, cond, _&&_}
 use mathlib.Core.List.{List, [], _∷_, _++_, append-assoc, append-nil}
-use lib.Dec.{T}
-use lib.ListN.{length, take, drop, length-append, length-drop, take-append-drop}
+use mathlib.Core.Option.{Option, none, some}
+use lib.Dec.{T, eqb}
+use lib.ListN.{length, take, drop, length-append, length-drop, take-append-drop, drop-of-length-le}
 use lib.Seq.{length-take-le}
-use Rattle.program.specs.Runs.{Desk, atFirst, turnAt, afterRead, afterEnd, afterSay, Goes, reads, ends, says, Says, last, stops, onward}
-use Rattle.program.specs.Said.{saidBy, saidIn}
-use Rattle.program.specs.Turn.{Turned}
+use Rattle.meaning.specs.Reply.{Reply}
+use Rattle.frames.specs.Next.{nextOf}
+use Rattle.frames.specs.NextLaws.{next-whole, next-least}
+use Rattle.frames.specs.declared.Frame.{Frame}
+use Rattle.frames.specs.declared.Frame.the-variants as frame
+use Rattle.answering.specs.Answer.{doneOn, openFrom}
+use Rattle.program.specs.Runs.{Desk, atFirst, turnAt, afterRead, afterEnd, afterSay, Goes, reads, ends, says, Says, last, stops, onward, Reached, begun, after}
+use Rattle.program.specs.Said.{bad, saidBy, saidIn}
+use Rattle.program.specs.Turn.{Turned, lastTurn, sayTurn, openTurn, turnBy, turnOn}
 use Rattle.program.specs.TurnLaws.{Means, turn-means}
 use Rattle.program.specs.declared.Turn.{Turn}
 use Rattle.program.specs.declared.Turn.the-variants.{Read, Say, Last, Stop}
@@ -60,6 +71,89 @@ all-said {d} o (onward (says used k e) r) = all-said o r ∙ said-say d o used k
 
 pub program-says : (words input all : List ℕ) → Says (atFirst words input) all → all ≡ saidBy words input
 program-says words input all r = all-said (λ t. absurd t) r
+
+-- At a desk that a run comes to, what is read is nothing, or a part that asked for more and then at most as much as it asked for. So a
+-- message uses up all that is read, and the loop that drives the program starts each message with nothing read.
+record Asked (read : List ℕ) (opened : Bool) : Type 0 where
+  first : List ℕ
+  more : List ℕ
+  asks : ℕ
+  all : read ≡ first ++ more
+  asked : nextOf first opened ≡ frame.More asks
+  most : length read ≤ asks
+
+-- what is read is told by the turn
+asks-more : (f : Frame) (words read : List ℕ) (ended opened : Bool) (n : ℕ) → turnBy f words read ended opened .turn ≡ Read n → f ≡ frame.More n
+asks-more (frame.More m) words read ended opened n e = by ended (opened && eqb (length read) 0) e
+  where
+    by : (c d : Bool) → cond {A = Turned} c (cond d (record { turn = Stop; words = words; says = [] }) (lastTurn words bad)) (record { turn = Read m; words = words; says = [] }) .turn ≡ Read n
+        → frame.More m ≡ frame.More n
+    by true true q = let z : _≡_ {A = ℕ} 0 1 = cc in absurd (omega arith)
+    by true false q = let z : _≡_ {A = ℕ} 0 1 = cc in absurd (omega arith)
+    by false d q = let z : m ≡ n = cc in ap frame.More z
+asks-more (frame.Whole m) words read ended opened n e = by opened (openFrom words (take m read) .refused) e
+  where
+    by : (c : Bool) (r : Option Reply)
+        → cond {A = Turned} c (sayTurn (length (take m read)) (doneOn words (take m read) .words) (doneOn words (take m read) .says))
+        (openTurn (length (take m read)) r (openFrom words (take m read) .words)) .turn ≡ Read n
+        → frame.Whole m ≡ frame.More n
+    by true r q = let z : _≡_ {A = ℕ} 0 1 = cc in absurd (omega arith)
+    by false none q = let z : _≡_ {A = ℕ} 0 1 = cc in absurd (omega arith)
+    by false (some x) q = let z : _≡_ {A = ℕ} 0 1 = cc in absurd (omega arith)
+asks-more frame.Stop words read ended opened n e = let z : _≡_ {A = ℕ} 0 1 = cc in absurd (omega arith)
+
+says-whole : (f : Frame) (words read : List ℕ) (ended opened : Bool) (used k : ℕ) → turnBy f words read ended opened .turn ≡ Say used k
+    → (m : ℕ) × (f ≡ frame.Whole m) × (used ≡ length (take m read))
+says-whole (frame.More m) words read ended opened used k e = absurd (by ended (opened && eqb (length read) 0) e)
+  where
+    by : (c d : Bool) → cond {A = Turned} c (cond d (record { turn = Stop; words = words; says = [] }) (lastTurn words bad)) (record { turn = Read m; words = words; says = [] }) .turn ≡ Say used k → ⊥
+    by true true q = let z : _≡_ {A = ℕ} 0 1 = cc in omega arith
+    by true false q = let z : _≡_ {A = ℕ} 0 1 = cc in omega arith
+    by false d q = let z : _≡_ {A = ℕ} 0 1 = cc in omega arith
+says-whole (frame.Whole m) words read ended opened used k e = (m, refl, by opened (openFrom words (take m read) .refused) e)
+  where
+    by : (c : Bool) (r : Option Reply)
+        → cond {A = Turned} c (sayTurn (length (take m read)) (doneOn words (take m read) .words) (doneOn words (take m read) .says))
+        (openTurn (length (take m read)) r (openFrom words (take m read) .words)) .turn ≡ Say used k
+        → used ≡ length (take m read)
+    by true r q = cc
+    by false none q = cc
+    by false (some x) q = let z : _≡_ {A = ℕ} 0 1 = cc in absurd (omega arith)
+says-whole frame.Stop words read ended opened used k e = let z : _≡_ {A = ℕ} 0 1 = cc in absurd (omega arith)
+
+-- a message uses up all that is read
+uses-all : (d : Desk) → (d .read ≡ []) ⊎ Asked (d .read) (d .opened) → (used k : ℕ) → turnAt d .turn ≡ Say used k → used ≡ length (d .read)
+unfolding turnOn
+uses-all d a used k e = go (says-whole (nextOf (d .read) (d .opened)) (d .words) (d .read) (d .ended) (d .opened) used k e) a
+  where
+    go : ((m : ℕ) × (nextOf (d .read) (d .opened) ≡ frame.Whole m) × (used ≡ length (take m (d .read)))) → (d .read ≡ []) ⊎ Asked (d .read) (d .opened) → used ≡ length (d .read)
+    go w (inl q) = let x = next-whole (d .read) (d .opened) (w .0) (w .1) in absurd (omega (arith, x .0, x .1, ap length q))
+    go w (inr q) =
+        let x = next-whole (d .read) (d .opened) (w .0) (w .1) in
+        let l = next-least (q .first) (q .more) (d .opened) (q .asks) (w .0) (q .asked) (ap (λ (r : List ℕ). nextOf r (d .opened)) (sym (q .all)) ∙ w .1) in
+        omega (arith, w .2, length-take-le (w .0) (d .read) (x .1), x .1, l, q .most)
+
+nothing-left : (used : ℕ) (read : List ℕ) → used ≡ length read → drop used read ≡ []
+nothing-left used read e = let h : length read ≤ used = omega (arith, e) in drop-of-length-le read h
+
+kept-asked : {words input : List ℕ} {d : Desk} → Reached words input d → (d .read ≡ []) ⊎ Asked (d .read) (d .opened)
+unfolding turnOn
+kept-asked begun = inl refl
+kept-asked (after {d} r (reads n k e lo hi s)) =
+    inr
+    (record {
+      first = d .read;
+      more = take k (d .rest);
+      asks = n;
+      all = refl;
+      asked = asks-more (nextOf (d .read) (d .opened)) (d .words) (d .read) (d .ended) (d .opened) n e;
+      most = omega (arith, hi, length-append (d .read) (take k (d .rest)), length-take-le k (d .rest) s, lo);
+    })
+kept-asked (after {d} r (ends n e s)) = kept-asked r
+kept-asked (after {d} r (says used k e)) = inl (nothing-left used (d .read) (uses-all d (kept-asked r) used k e))
+
+pub all-used : (words input : List ℕ) (d : Desk) → Reached words input d → (used k : ℕ) → turnAt d .turn ≡ Say used k → drop used (d .read) ≡ []
+all-used words input d r used k e = nothing-left used (d .read) (uses-all d (kept-asked r) used k e)
 
 -- how much is left to do: two for each byte that is still to come, one for each that is read, one for the end
 abbrev pub left : Desk → ℕ

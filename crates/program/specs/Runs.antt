@@ -62,3 +62,8 @@ pub data Says : Desk → List ℕ → Type 0 where
   last : {d : Desk} (k : ℕ) → turnAt d .turn ≡ Last k → Says d (d .said ++ turnAt d .says)
   stops : {d : Desk} → turnAt d .turn ≡ Stop → Says d (d .said)
   onward : {d d′ : Desk} {all : List ℕ} → Goes d d′ → Says d′ all → Says d all
+
+-- every desk that a run comes to
+pub data Reached (words input : List ℕ) : Desk → Type 0 where
+  begun : Reached words input (atFirst words input)
+  after : {d d′ : Desk} → Reached words input d → Goes d d′ → Reached words input d′

@@ -1,5 +1,6 @@
 -- Laws of what the small program does next: each turn is a part of what is said to all that is left. Assumes nothing.
 --     turn-means   what each turn tells of what is said, whatever of the input is still to come
+--     read-within, say-within, last-within   what a turn asks for and says is within what is lent
 --     one-turn     two turns that both meet the promise are equal
 use Prim.Native.Nat.{ℕ, _≤_, _<_}
 use native.Mathlib.Omega.{arith}
@@ -154,6 +155,28 @@ module _ (words read rest : List ℕ) (ended opened : Bool) (over : T ended → 
       go (frame.More n) e = more-means n e ended refl (opened && eqb (length read) 0) refl
       go (frame.Whole n) e = message-means n e opened refl
       go frame.Stop e = stop-means e
+
+-- what a turn asks for and says is within what the loop that drives it has: more is read only up to the longest message, and what is
+-- said stands in the output
+module _ (words read : List ℕ) (ended opened : Bool) (t : Turn) (after out bytes : List ℕ) (p : Turns (turnOn words read ended opened) t after out bytes) where
+  meant : (x : Turn) → t ≡ x → Means words read [] ended opened (λ e. refl) x (turnOn words read ended opened)
+  meant x e =
+      subst (λ (y : Turn). Means words read [] ended opened (λ e. refl) y (turnOn words read ended opened)) (sym (p .gives) ∙ e)
+      (turn-means words read [] ended opened (λ e. refl))
+
+  said-stands : (k : ℕ) → k ≡ length (turnOn words read ended opened .says) → k ≤ length bytes
+  said-stands k e =
+      let says = turnOn words read ended opened .says in
+      omega (arith, e, ap length (p .writes), length-append says (drop (length says) out))
+
+  pub read-within : (n : ℕ) → t ≡ Read n → (length read < n) × (n ≤ longest)
+  read-within n e = let m = meant (Read n) e in (m .1, m .2)
+
+  pub say-within : (used said : ℕ) → t ≡ Say used said → (1 ≤ used) × (used ≤ length read) × (said ≤ length bytes)
+  say-within used said e = let m = meant (Say used said) e in (m .1, m .2, said-stands said (m .3))
+
+  pub last-within : (said : ℕ) → t ≡ Last said → said ≤ length bytes
+  last-within said e = said-stands said (meant (Last said) e .1)
 
 -- two turns that both meet the promise are equal
 pub one-turn :

@@ -1,15 +1,55 @@
--- `screen::main` is safe and ends. Assumes nothing.
-use lib.ListN.{length}
+-- `screen::main` is safe and ends: what each turn asks for and says is within the arrays. Assumes nothing.
+use Prim.Native.Nat.{ℕ, _-_, _≤_, _<_}
+use native.Mathlib.Omega.{arith}
 use mathlib.Core.Path.{_≡_}
+use mathlib.Core.List.{List}
+use lib.ListN.{length, take}
+use lib.Seq.{length-take-le}
+use Rattle.program.specs.TurnLaws.{read-within, say-within, last-within}
 use borrow.Author.Needs.{needs}
 use Rattle.screen.proofs.main.Statement.{statement}
 use Rattle.screen.proofs.main.Tie as tie
 
 abbrev Inv-loop : tie.InvT-loop
-Inv-loop book₀ msg₀ out₀ turns₀ book msg out turns = (length book ≡ 4108) × (length msg ≡ 12069) × (length out ≡ 12069)
+Inv-loop book₀ msg₀ out₀ have₀ ended₀ opened₀ turns₀ book msg out have ended opened turns =
+    (length book ≡ 4108) × (length msg ≡ 12069) × (length out ≡ 12069) × (have ≤ 12069)
 
 abbrev μ-loop : tie.MeasureT-loop
-μ-loop book₀ msg₀ out₀ turns₀ book msg out turns = turns
+μ-loop book₀ msg₀ out₀ have₀ ended₀ opened₀ turns₀ book msg out have ended opened turns = turns
+
+-- the first `have` bytes are lent to a turn
+front-long : (have : ℕ) (msg : List ℕ) → have ≤ length msg → length (take (have - 0) msg) ≡ have
+front-long have msg h = let z : have - 0 ≡ have = omega arith in rw (z, length-take-le have msg h)
+
+-- the loop, seen from a turn
+abbrev head : tie.After-next-turn Inv-loop μ-loop → tie.At-loop Inv-loop μ-loop
+head t = t .before .before .before .before .before .before
+
+reading : (k : tie.After-turn Inv-loop μ-loop) → (head (k .before .before .before .before) .loop .have < k .turn .given .0 .0) × (k .turn .given .0 .0 ≤ 12069)
+reading k =
+    let t = k .before .before .before .before in
+    let l = head t .loop in
+    let w = read-within _ _ _ _ _ _ _ _ (t .next-turn .ensures) _ (k .turn .given .1) in
+    (omega (arith, w .0, front-long (l .have) (l .msg) (omega arith)), w .1)
+
+read-on-requires : tie.Need-read-on-requires Inv-loop μ-loop
+read-on-requires c κs = let r = reading (c .before .before) in (omega (arith, r .0), omega (arith, r .1))
+
+sub-ended : tie.Need-sub-ended Inv-loop μ-loop
+sub-ended c =
+    let k = c .before .before .before .before in
+    let r = reading k in
+    let within : head (k .before .before .before .before) .loop .have ≤ k .turn .given .0 .0 = omega (arith, r .0) in
+    within
+
+loop-again : tie.Need-loop-again Inv-loop μ-loop
+loop-again c = let r = reading (c .before .before .before .before) in (search needs, search needs, search needs, omega (arith, r .0, r .1, c .before .read-on .ensures))
+
+write-front-requires : tie.Need-write-front-requires Inv-loop μ-loop
+write-front-requires c κs = say-within _ _ _ _ _ _ _ _ (c .before .before .before .before .before .before .next-turn .ensures) _ _ (c .before .before .turn2 .given .1) .2
+
+write-front-requires-2 : tie.Need-write-front-requires-2 Inv-loop μ-loop
+write-front-requires-2 c κs = last-within _ _ _ _ _ _ _ _ (c .before .before .before .before .before .before .next-turn .ensures) _ (c .before .before .turn3 .given .1)
 
 pub main-spec : {M : Type 1} → statement M
 main-spec =
@@ -20,14 +60,26 @@ main-spec =
     (λ c. search needs)
     (λ c. search needs)
     (λ c. search needs)
+    (λ c. search needs)
+    (λ c. search needs)
+    (λ c. search needs)
+    (λ c. search needs)
     (λ c κs. search needs)
     (λ c. search needs)
     (λ c. search needs)
+    read-on-requires
+    sub-ended
+    (λ c. search needs)
+    (λ c. search needs)
+    loop-again
+    (λ c. search needs)
+    (λ c. search needs)
+    write-front-requires
     (λ c. search needs)
     (λ c. search needs)
     (λ c. search needs)
-    (λ c κs. search needs)
     (λ c. search needs)
+    write-front-requires-2
     (λ c. search needs)
     (λ c. search needs)
     (λ c. search needs)
