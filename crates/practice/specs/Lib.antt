@@ -2,5 +2,4 @@ pub mod Compare
 pub mod CompareLaws
 pub mod File
 pub mod FileLaws
-pub mod Play
 pub mod PlayLaws

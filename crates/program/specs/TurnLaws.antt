@@ -1,5 +1,6 @@
 -- Laws of what the small program does next: each turn is a part of what is said to all that is left. Assumes nothing.
 --     turn-means   what each turn tells of what is said, whatever of the input is still to come
+--     turn-told    the same of the turn that was given, where nothing is still to come
 --     read-within, say-within, last-within   what a turn asks for and says is within what is lent
 --     one-turn     two turns that both meet the promise are equal
 use Prim.Native.Nat.{ℕ, _≤_, _<_}
@@ -89,7 +90,7 @@ module _ (words read rest : List ℕ) (ended opened : Bool) (over : T ended → 
       ends r true q = ap (saidIn opened words) (here r) ∙ nothing opened read q
       ends r false q = (
         broken-said (frame.More n) (ap (λ (l : List ℕ). nextOf l opened) (here r) ∙ e) (more-not-whole n)
-        (λ t. subst (λ (l : List ℕ). 0 < length l) (sym (here r)) (something opened read q t)),
+            (λ t. subst (λ (l : List ℕ). 0 < length l) (sym (here r)) (something opened read q t)),
         refl,
       )
 
@@ -127,7 +128,7 @@ module _ (words read rest : List ℕ) (ended opened : Bool) (over : T ended → 
     opens f none r =
         let o = opened-at false f in (
           o .0 ∙ begin-opened words all n (o .1) (ap (λ (m : List ℕ). openFrom words m .refused) front ∙ r)
-          ∙ ap₂ (λ (m l : List ℕ). saidFrom (openFrom words m .words) l) front behind,
+              ∙ ap₂ (λ (m l : List ℕ). saidFrom (openFrom words m .words) l) front behind,
           used .0,
           used .1,
           refl,
@@ -143,7 +144,7 @@ module _ (words read rest : List ℕ) (ended opened : Bool) (over : T ended → 
   stop-means : nextOf read opened ≡ frame.Stop → (saidIn opened words all ≡ bad) × (length bad ≡ length bad)
   stop-means e = (
     broken-said frame.Stop (next-settled read rest opened (subst (λ (f : Frame). T (told f)) (sym e) tt) ∙ e) stop-not-whole
-    (λ t. omega (arith, stop-some read opened e, length-append read rest)),
+        (λ t. omega (arith, stop-some read opened e, length-append read rest)),
     refl,
   )
 
@@ -159,8 +160,9 @@ module _ (words read rest : List ℕ) (ended opened : Bool) (over : T ended → 
 -- what a turn asks for and says is within what the loop that drives it has: more is read only up to the longest message, and what is
 -- said stands in the output
 module _ (words read : List ℕ) (ended opened : Bool) (t : Turn) (after out bytes : List ℕ) (p : Turns (turnOn words read ended opened) t after out bytes) where
-  meant : (x : Turn) → t ≡ x → Means words read [] ended opened (λ e. refl) x (turnOn words read ended opened)
-  meant x e =
+  -- what the turn that was given tells of an input that ends here
+  pub turn-told : (x : Turn) → t ≡ x → Means words read [] ended opened (λ e. refl) x (turnOn words read ended opened)
+  turn-told x e =
       subst (λ (y : Turn). Means words read [] ended opened (λ e. refl) y (turnOn words read ended opened)) (sym (p .gives) ∙ e)
       (turn-means words read [] ended opened (λ e. refl))
 
@@ -170,13 +172,13 @@ module _ (words read : List ℕ) (ended opened : Bool) (t : Turn) (after out byt
       omega (arith, e, ap length (p .writes), length-append says (drop (length says) out))
 
   pub read-within : (n : ℕ) → t ≡ Read n → (length read < n) × (n ≤ longest)
-  read-within n e = let m = meant (Read n) e in (m .1, m .2)
+  read-within n e = let m = turn-told (Read n) e in (m .1, m .2)
 
   pub say-within : (used said : ℕ) → t ≡ Say used said → (1 ≤ used) × (used ≤ length read) × (said ≤ length bytes)
-  say-within used said e = let m = meant (Say used said) e in (m .1, m .2, said-stands said (m .3))
+  say-within used said e = let m = turn-told (Say used said) e in (m .1, m .2, said-stands said (m .3))
 
   pub last-within : (said : ℕ) → t ≡ Last said → said ≤ length bytes
-  last-within said e = said-stands said (meant (Last said) e .1)
+  last-within said e = said-stands said (turn-told (Last said) e .1)
 
 -- two turns that both meet the promise are equal
 pub one-turn :

@@ -25,10 +25,7 @@ ghost use Rattle.program.specs.declared.Turn.the-variants.{Last};
 // front are said; so many are said, and the program stops; it stops without a word.
 pub enum Turn {
     Read(usize),
-    Say {
-        used: usize,
-        said: usize,
-    },
+    Say { used: usize, said: usize },
     Last(usize),
     Stop,
 }
@@ -102,13 +99,7 @@ fn message_turn(book: &mut [u64], msg: &[u8], opened: bool, out: &mut [u8]) -> T
 }
 
 // What the program does next: `read` is what is read and not yet used, `out` has room for the longest message.
-pub fn next_turn(
-    book: &mut [u64],
-    read: &[u8],
-    ended: bool,
-    opened: bool,
-    out: &mut [u8],
-) -> Turn
+pub fn next_turn(book: &mut [u64], read: &[u8], ended: bool, opened: bool, out: &mut [u8]) -> Turn
     requires { ⌜ longest ≤ length (now out) ⌝ }
     ensures { λ r. ⌜ Turns (turnOn (now (book .entry)) (now (read .entry)) ended opened) r (now (book .exit)) (now (out .entry)) (now (out .exit)) ⌝ }
 {

@@ -64,10 +64,7 @@ ghost use Rattle.taking.specs.Stop.{StopsTap};
 // The reply that stops a tap, or the tap and its label, which may be taken.
 pub enum TapStop {
     Stopped(Reply),
-    Clear {
-        tap: Tap,
-        label: Parts,
-    },
+    Clear { tap: Tap, label: Parts },
 }
 
 // Whether the tap of w is counted.

@@ -18,8 +18,10 @@ stamp-refusal-requires c κs =
     let w = s .args in
     let h = s .pre .1 in (
       s .pre .0,
-      (sender-in (w .msg .now) (w .sender) (w .screens) (w .count) (listOf (w .stamp)) h,
-      subst (λ (x : Stamp). T (stampFits (w .screens) x)) (sym (l .list-of .ensures)) (stamp-in (w .msg .now) (w .sender) (w .screens) (w .count) (listOf (w .stamp)) h)),
+      (
+        sender-in (w .msg .now) (w .sender) (w .screens) (w .count) (listOf (w .stamp)) h,
+        subst (λ (x : Stamp). T (stampFits (w .screens) x)) (sym (l .list-of .ensures)) (stamp-in (w .msg .now) (w .sender) (w .screens) (w .count) (listOf (w .stamp)) h),
+      ),
     )
 
 -- the number that was worked out is that of the head's stamp

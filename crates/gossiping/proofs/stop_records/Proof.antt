@@ -54,9 +54,12 @@ add-if2 c =
     let s = entry k in
     let w = s .args in
     record {
-      fits = omega
-          (arith, log-most (w .b .now) (lawful-held (w .b .now) (s .pre .0)), k .look-at .ensures .1 .1,
-          count-few (w .msg .now) (w .sender) (w .screens) (w .count) (listOf (w .stamp)) (s .pre .1 .0));
+      fits = omega (
+        arith,
+        log-most (w .b .now) (lawful-held (w .b .now) (s .pre .0)),
+        k .look-at .ensures .1 .1,
+        count-few (w .msg .now) (w .sender) (w .screens) (w .count) (listOf (w .stamp)) (s .pre .1 .0),
+      );
     }
 
 returns-2 : tie.Need-returns-2

@@ -136,8 +136,8 @@ returns-3 c =
     let lt : firstWith w rs < length rs = subst (λ (i : ℕ). i < length rs) (f .find-tap .ensures) (within h) in
     let found = ap (λ (x : Tap). exists (holds x) rs) (sym (same k)) ∙ tap-found w rs ∙ lt-ltb (firstWith w rs) (length rs) lt in
     let says =
-        c .logged-stamp .ensures ∙ ap (λ (i : ℕ). stampOf (getD rs i noRecord)) (f .find-tap .ensures) ∙ sym (first-stamp w rs noRecord lt)
-        ∙ ap (λ (x : Tap). firstStamp x rs) (same k) in
+    c .logged-stamp .ensures ∙ ap (λ (i : ℕ). stampOf (getD rs i noRecord)) (f .find-tap .ensures) ∙ sym (first-stamp w rs noRecord lt)
+    ∙ ap (λ (x : Tap). firstStamp x rs) (same k) in
     line-logged (bookOf ws) t (listOf (s .args .label)) (lawful-sound ws (s .pre .0)) (s .pre .1 .0) (s .pre .1 .1) (own (k .before)) (new e) found
     ∙ ap (λ (x : Stamp). some (already x)) (sym says)
 

@@ -1,95 +1,107 @@
 -- `practice::play::follow` meets its contract. The invariant: the whole comparison is that of what is left, from the place that is reached. Assumes nothing.
 use Prim.Native.Nat.{ℕ, _+_, _-_, _≤_}
 use native.Mathlib.Omega.{arith}
-use mathlib.Core.Path.{_≡_, sym, ap, _∙_}
-use mathlib.Core.Bool.{true}
+use mathlib.Core.Path.{_≡_, refl, sym, ap, _∙_}
 use mathlib.Core.List.{List}
-use lib.ListN.{length, take, drop, length-drop}
+use lib.ListN.{length, drop, length-drop}
 use borrow.Author.Needs.{needs}
+use Rattle.program.specs.Said.{saidBy, saidIn}
+use Rattle.program.specs.TurnLaws.{say-within, last-within}
 use Rattle.practice.specs.Compare.{comparedAt}
-use Rattle.practice.specs.CompareLaws.{compared-within, compared-none}
-use Rattle.practice.specs.Play.{nextIn, saidFrom}
-use Rattle.practice.specs.PlayLaws.{bad-says, said-end, follow-broken, follow-within, follow-turn}
-use Rattle.practice.specs.declared.play.Next.the-variants.{Message}
+use Rattle.practice.specs.CompareLaws.{to-end, compared-within}
+use Rattle.practice.specs.PlayLaws.{never-reads, say-turn, last-turn, stop-turn}
 use Rattle.practice.proofs.play.follow.Statement.{statement}
 use Rattle.practice.proofs.play.follow.Tie as tie
 
 abbrev Inv-loop : tie.InvT-loop
-Inv-loop book₀ input out₀ expected at₀ place₀ book out at place =
+Inv-loop book₀ input out₀ expected at₀ place₀ opened₀ book out at place opened =
     (at ≤ length input) × (place ≤ length expected) × (length book ≡ length book₀) × (length out ≡ length out₀)
-    × (comparedAt 0 (saidFrom book₀ input) expected ≡ comparedAt place (saidFrom book (drop at input)) expected)
+    × (comparedAt 0 (saidBy book₀ input) expected ≡ comparedAt place (saidIn opened book (drop at input)) expected)
 
 abbrev μ-loop : tie.MeasureT-loop
-μ-loop book₀ input out₀ expected at₀ place₀ book out at place = length input - at
+μ-loop book₀ input out₀ expected at₀ place₀ opened₀ book out at place opened = length input - at
 
--- the loop's head and the entry, seen from a message that is told
-abbrev head : tie.After-known-told Inv-loop μ-loop → tie.At-loop Inv-loop μ-loop
-head k = k .before .before .before .before .before .before
+-- the loop's head and the entry, seen from a turn
+abbrev head : tie.After-next-turn Inv-loop μ-loop → tie.At-loop Inv-loop μ-loop
+head t = t .before .before .before .before
 
 abbrev entry : tie.At-loop Inv-loop μ-loop → tie.Start Inv-loop μ-loop
 entry l = l .before .before .before .before .before
 
--- the next message, and that it lies within the input
-message : (k : tie.After-known-told Inv-loop μ-loop)
-    → let l = head k in let input = entry l .args .input .now in
-    Message (k .before .next .given .0 .0) ≡ nextIn true (take (length input - l .loop .at) (drop (l .loop .at) input))
-message k = sym (k .before .next .given .1) ∙ k .before .before .before .next-message .ensures
+-- a message that says its part
+abbrev turnOf : tie.After-turn Inv-loop μ-loop → tie.After-next-turn Inv-loop μ-loop
+turnOf k = k .before .before .before .before .before .before
 
-inside : (k : tie.After-known-told Inv-loop μ-loop)
-    → (1 ≤ k .before .next .given .0 .0) × (head k .loop .at + k .before .next .given .0 .0 ≤ length (entry (head k) .args .input .now))
+-- it lies within the input, and what it says within the output
+inside : (k : tie.After-turn Inv-loop μ-loop) → let l = head (turnOf k) in
+    (1 ≤ k .turn .given .0 .0) × (l .loop .at + k .turn .given .0 .0 ≤ length (entry l .args .input .now))
 inside k =
-    let l = head k in
-    let s = entry l .args in
-    follow-within (l .loop .book) (s .input .now) (s .expected .now) (l .loop .at) (l .loop .place) (k .before .before .before .before .before .loop-test .taken) _ (message k)
+    let t = turnOf k in
+    let l = head t in
+    let input = entry l .args .input .now in
+    let w = say-within _ _ _ _ _ _ _ _ (t .next-turn .ensures) _ _ (k .turn .given .1) in
+    (w .0, omega (arith, w .1, ap length (to-end (l .loop .at) input), length-drop (l .loop .at) input, l .loop .inv .0))
 
-refuse-at-requires : tie.Need-refuse-at-requires Inv-loop μ-loop
-refuse-at-requires c κs = (bad-says, (omega arith, omega arith))
+part-compare-at-end : tie.Need-part-compare-at-end Inv-loop μ-loop
+part-compare-at-end c =
+    let k = c .before .before in
+    say-within _ _ _ _ _ _ _ _ (turnOf k .next-turn .ensures) _ _ (k .turn .given .1) .2
 
 returns : tie.Need-returns Inv-loop μ-loop
 returns c =
-    let n = c .before .before .before .before .before .before in
-    let l = n .before .before .before in
-    let s = entry l .args in
-    let e = sym (c .before .before .before .before .enum-told .given .1) ∙ n .next-message .ensures in
-    c .before .before .refuse-at .ensures
-    ∙ sym (l .loop .inv .4 ∙ follow-broken (l .loop .book) (s .input .now) (s .expected .now) (l .loop .at) (l .loop .place) (n .before .before .loop-test .taken) e)
-
-add-end : tie.Need-add-end Inv-loop μ-loop
-add-end c = let b = inside c in search needs
-
-part-reply-at-end : tie.Need-part-reply-at-end Inv-loop μ-loop
-part-reply-at-end c = inside (c .before) .1
-
-returns-2 : tie.Need-returns-2 Inv-loop μ-loop
-returns-2 c =
-    let r = c .before .before .before .before .before .before in
+    let r = c .before .before in
     let k = r .before .before .before .before in
-    let l = head k in
+    let t = turnOf k in
+    let l = head t in
     let s = entry l .args in
-    let o = sym (c .enum-told2 .given .1) ∙ r .reply-at .ensures .0 in
-    let turn = follow-turn (l .loop .book) (s .input .now) (s .expected .now) (l .loop .at) (l .loop .place) (k .before .before .before .before .before .loop-test .taken) _ (message k) _ _ o (r .reply-at .ensures .1 .0) in
-    c .enum-told2 .given .1 ∙ sym (l .loop .inv .4 ∙ turn)
+    let o = sym (c .enum-told .given .1) ∙ r .compare-at .ensures in
+    c .enum-told .given .1
+    ∙ sym (l .loop .inv .4 ∙ say-turn (l .loop .book) (s .input .now) (l .loop .out) (s .expected .now) (l .loop .at) (l .loop .place) (l .loop .opened) _ _ _ (t .next-turn .ensures) _ _ (k .turn .given .1) _ o)
+
+add-at : tie.Need-add-at Inv-loop μ-loop
+add-at c = let b = inside (c .before .before .before .before .before .before .before) in search needs
 
 loop-less : tie.Need-loop-less Inv-loop μ-loop
-loop-less c = let b = inside (c .before .before .before .before .before .before .before .before .before .before .before) in omega arith
+loop-less c = let b = inside (c .before .before .before .before .before .before .before) in omega (arith, b .0, b .1)
 
 loop-again : tie.Need-loop-again Inv-loop μ-loop
 loop-again c =
-    let r = c .before .before .before .before .before .before .before in
+    let r = c .before .before .before in
     let k = r .before .before .before .before in
-    let l = head k in
+    let t = turnOf k in
+    let l = head t in
     let s = entry l .args in
-    let o = sym (c .before .outcome .given .1) ∙ r .reply-at .ensures .0 in
-    let turn = follow-turn (l .loop .book) (s .input .now) (s .expected .now) (l .loop .at) (l .loop .place) (k .before .before .before .before .before .loop-test .taken) _ (message k) _ _ o (r .reply-at .ensures .1 .0) in
+    let o = sym (c .before .outcome .given .1) ∙ r .compare-at .ensures in
+    let turn = say-turn (l .loop .book) (s .input .now) (l .loop .out) (s .expected .now) (l .loop .at) (l .loop .place) (l .loop .opened) _ _ _ (t .next-turn .ensures) _ _ (k .turn .given .1) _ o in
     (inside k .1, compared-within (l .loop .place) _ _ (s .expected .now) (l .loop .inv .1) (sym o), search needs, search needs, l .loop .inv .4 ∙ turn)
+
+part-compare-at-end-2 : tie.Need-part-compare-at-end-2 Inv-loop μ-loop
+part-compare-at-end-2 c =
+    let k = c .before .before in
+    last-within _ _ _ _ _ _ _ _ (k .before .before .before .before .before .before .next-turn .ensures) _ (k .turn2 .given .1)
+
+returns-2 : tie.Need-returns-2 Inv-loop μ-loop
+returns-2 c =
+    let k = c .before .before .before .before in
+    let t = k .before .before .before .before .before .before in
+    let l = head t in
+    let s = entry l .args in
+    c .compare-at2 .ensures
+    ∙ sym (l .loop .inv .4 ∙ last-turn (l .loop .book) (s .input .now) (l .loop .out) (s .expected .now) (l .loop .at) (l .loop .place) (l .loop .opened) _ _ _ (t .next-turn .ensures) _ (k .turn2 .given .1))
 
 returns-3 : tie.Need-returns-3 Inv-loop μ-loop
 returns-3 c =
-    let l = c .before in
+    let t = c .before .before .before .before .before .before in
+    let l = head t in
     let s = entry l .args in
-    let left = drop (l .loop .at) (s .input .now) in
-    let none = said-end (l .loop .book) left (omega (arith, length-drop (l .loop .at) (s .input .now))) in
-    sym (l .loop .inv .4 ∙ ap (λ (x : List ℕ). comparedAt (l .loop .place) x (s .expected .now)) none ∙ compared-none (l .loop .place) (s .expected .now))
+    sym (l .loop .inv .4 ∙ stop-turn (l .loop .book) (s .input .now) (l .loop .out) (s .expected .now) (l .loop .at) (l .loop .place) (l .loop .opened) _ _ _ (t .next-turn .ensures) (c .enum-told2 .given .1))
+
+returns-4 : tie.Need-returns-4 Inv-loop μ-loop
+returns-4 c =
+    let t = c .before .before .before .before .before .before in
+    let l = head t in
+    let s = entry l .args in
+    absurd (never-reads (l .loop .book) (s .input .now) (l .loop .out) (s .expected .now) (l .loop .at) (l .loop .place) (l .loop .opened) _ _ _ (t .next-turn .ensures) _ (c .enum-told3 .given .1))
 
 pub follow-spec : {M : Type 1} → statement M
 follow-spec =
@@ -104,22 +116,30 @@ follow-spec =
     (λ c κs. search needs)
     (λ c. search needs)
     (λ c. search needs)
-    refuse-at-requires
     (λ c. search needs)
-    (λ c. search needs)
-    returns
-    add-end
-    (λ c. search needs)
-    (λ c. search needs)
-    part-reply-at-end
+    part-compare-at-end
     (λ c κs. search needs)
     (λ c. search needs)
     (λ c. search needs)
     (λ c. search needs)
     (λ c. search needs)
-    returns-2
+    returns
+    add-at
     loop-less
     loop-again
     (λ c. search needs)
     (λ c. search needs)
-    returns-3)
+    (λ c. search needs)
+    part-compare-at-end-2
+    (λ c κs. search needs)
+    (λ c. search needs)
+    (λ c. search needs)
+    returns-2
+    (λ c. search needs)
+    (λ c. search needs)
+    (λ c. search needs)
+    returns-3
+    (λ c. search needs)
+    (λ c. search needs)
+    (λ c. search needs)
+    returns-4)

@@ -9,7 +9,7 @@ use Rattle.practice.proofs.play.play.Tie as tie
 returns : tie.Need-returns
 returns c =
     let e = c .before .before .before .before .before .before .before .before .args .expected .now in
-    c .end-at .ensures ∙ ap (λ (o : Outcome). endedBy o e) (c .before .before .before .begin .ensures)
+    c .end-at .ensures ∙ ap (λ (o : Outcome). endedBy o e) (c .before .before .before .follow .ensures)
 
 pub play-spec : {M : Type 1} → statement M
 play-spec = tie.close (tie.spec (λ c. search needs) (λ c. search needs) (λ c κs. search needs) (λ c κs. search needs) returns)
