@@ -1,7 +1,7 @@
 #!/usr/bin/env python3
-"""Byte vectors for the program `practice`: input streams of the small program, each with the exact bytes it must write.
+"""Byte vectors for the programs `practice` and `screen`: input streams of the small program, each with the exact bytes it must write.
 
-    python3 tools/vectors.py            writes crates/practice/data/vectors and crates/practice/stdout
+    python3 tools/vectors.py            writes crates/practice/data/vectors, crates/practice/stdout, crates/screen/stdin and crates/screen/stdout
     python3 tools/vectors.py --check    writes nothing; exits 1 if a file on disk differs from what would be written
 
 The first half is a model of one screen, written from the text of document 01 alone; it shares no code with the crates. It keeps every record that it
@@ -19,6 +19,7 @@ from pathlib import Path
 from struct import pack, unpack
 
 CRATE = Path(__file__).resolve().parent.parent / "crates" / "practice"
+SCREEN = CRATE.parent / "screen"
 
 # ---------------------------------------------------------------- stamps, taps, records
 
@@ -691,6 +692,24 @@ def steps_that_apply():
         (gossip(1, 3, [1], other_stamp), heard(0, 0)), (send, gossip(2, 3, [1], other_stamp)))
 
 
+# ---------------------------------------------------------------- what the program `screen` is run on
+
+def screens_run():
+    """Document 01's whole case, and then every kind of message: gossip with records, all replies, refusals, and a lone record, which stops it."""
+    whole = start(0, 2) + press(A) + send
+    assert whole == hexed(WHOLE_CASE_IN)
+    decline, later = record(1, 1, Tap(6, 1, 7, 1, DECLINE)), record(1, 2, Tap(6, 2, 7, 2, ACCEPT), 1)
+    told = gossip(1, 2, [1, 2], A_REC, decline, later)
+    pairs = [
+        (gossip(1, 2, [1, 1], A_REC, decline, later), no(1)), (told, heard(2, 2)), (told, no(4)),
+        (ask(7, 1, 2), verdict(ACCEPTED, 2, 1, 0, 1, 2)), (ask(7, 1, 3), wait(0x02)), (press(A), already(1, 2)),
+        (press(nth(1), 2), no(3)), (press(Tap(5, 3, 64, 1, ACCEPT)), no(1)), (gossip(0, 2, [1, 3]), no(2)),
+        (gossip(1, 2, [1, 4], record(1, 4, nth(4))), no(8)), (gossip(1, 2, [2, 2]), no(6)), (gossip(1, 2, [1, KNOWN_MAX]), no(7)),
+        (press(B, 1, 2), taken(2, 2)), (send, gossip(0, 2, [2, 2], record(0, 2, B, 1, 2))), (ask(7), verdict(ACCEPTED, 2, 1, 0, 2, 2))]
+    raw("screen", whole + b"".join(asked for asked, _ in pairs) + wire_record(A_REC) + send,
+        hexed(WHOLE_CASE_OUT) + b"".join(reply for _, reply in pairs) + STOP)
+
+
 # ---------------------------------------------------------------- houses whose screens talk to each other
 
 class Taped(Screen):
@@ -821,7 +840,7 @@ def check_figures():
 def all_vectors():
     for part in (document_cases, case_m, case_n, case_o_log, case_o_known, opening, unexpected_kinds, cuts, counts, record_kinds, tap_fields,
                  question_fields, gossip_head_fields, record_fields, tap_order, gossip_order_at_two, gossip_order_at_four_and_five,
-                 gossip_order_at_six_and_seven, gossip_order_at_eight_and_nine, verdicts, already_and_waiting, steps_that_apply, exchange_of_three):
+                 gossip_order_at_six_and_seven, gossip_order_at_eight_and_nine, verdicts, already_and_waiting, steps_that_apply, screens_run, exchange_of_three):
         part()
     mixed_walk(2, 60, 1)
     mixed_walk(3, 90, 2)
@@ -855,7 +874,8 @@ def main(arguments):
         sys.exit("usage: vectors.py [--check]")
     all_vectors()
     check_figures()
-    files = {CRATE / "data" / "vectors": data_file(), CRATE / "stdout": stdout_file()}
+    given, written = vectors["screen"]
+    files = {CRATE / "data" / "vectors": data_file(), CRATE / "stdout": stdout_file(), SCREEN / "stdin": given, SCREEN / "stdout": written}
     print_summary(files)
     for path, content in files.items():
         if not arguments:
