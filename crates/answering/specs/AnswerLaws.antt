@@ -115,7 +115,8 @@ pub room-most : (bytes : List ℕ) → roomFor bytes ≤ longest
 unfolding roomFor
 room-most bytes = go (eqb (kindIn bytes) 1) (eqb (kindIn bytes) 3) (eqb (kindIn bytes) 4) (eqb (kindIn bytes) 12)
   where
-    go : (gossip tap question send : Bool) → cond gossip gossipLong (cond tap tapLong (cond question questionLong (cond send longest refusalLong))) ≤ longest
+    go : (gossip tap question send : Bool)
+        → cond gossip gossipLong (cond tap tapLong (cond question questionLong (cond send longest refusalLong))) ≤ longest
     go true tap question send = omega arith
     go false true question send = omega arith
     go false false true send = omega arith
@@ -130,8 +131,16 @@ send-kind bytes e =
     is-true (eqb (kindIn bytes) 12) (and-l (eqb (kindIn bytes) 12) fits (and-l (eqb (kindIn bytes) 12 && fits) true (subst T (sym e) tt)))
 
 module _ (ws bytes : List ℕ) where
+  -- what a message comes to, by what its bytes are
+  done : (gossip tap question send : Bool) → Done
+  done gossip tap question send =
+      cond gossip (doneBy (gossipOn ws bytes))
+      (cond tap (doneBy (tapOn ws bytes))
+      (cond question (doneBy (questionOn ws bytes))
+      (cond send (sendDone ws) (doneBy (badOn ws)))))
+
   pub within : Within (roomFor bytes) (doneOn ws bytes)
-  unfolding doneOn roomFor
+  unfolding doneOn done roomFor
   within = go (eqb (kindIn bytes) 1) (eqb (kindIn bytes) 3) (eqb (kindIn bytes) 4) (readable sendKind bytes) refl (eqb (kindIn bytes) 12) refl
     where
       bad : Within refusalLong (doneBy (badOn ws))
@@ -139,7 +148,7 @@ module _ (ws bytes : List ℕ) where
 
       go : (gossip tap question send : Bool) → readable sendKind bytes ≡ send → (twelve : Bool) → eqb (kindIn bytes) 12 ≡ twelve
           → Within (cond gossip gossipLong (cond tap tapLong (cond question questionLong (cond twelve longest refusalLong))))
-          (cond gossip (doneBy (gossipOn ws bytes)) (cond tap (doneBy (tapOn ws bytes)) (cond question (doneBy (questionOn ws bytes)) (cond send (sendDone ws) (doneBy (badOn ws))))))
+          (done gossip tap question send)
       go true tap question send e twelve f = reply-within gossipLong (gossipOn ws bytes) (gossip-says ws bytes) (gossip-long ws bytes)
       go false true question send e twelve f = reply-within tapLong (tapOn ws bytes) (tap-says ws bytes) (tap-long ws bytes)
       go false false true send e twelve f = reply-within questionLong (questionOn ws bytes) (question-says ws bytes) (question-long ws bytes)
@@ -148,12 +157,19 @@ module _ (ws bytes : List ℕ) where
       go false false false false e true f = record { some = bad .some; fits = omega (arith, bad .fits) }
       go false false false false e false f = bad
 
+  -- what is given where the output is shorter than the reply, and where it is not
+  given : List ℕ → Bool → Answered
+  given out short =
+      let d = doneOn ws bytes in
+      cond short (record { long = 0; words = ws; bytes = out })
+      (record { long = length (d .says); words = d .words; bytes = d .says ++ drop (length (d .says)) out })
+
   -- 12 exactly where the output is shorter than the very reply
   pub twelve-exactly : (out : List ℕ) → eqb (answerOn ws bytes out .long) 0 ≡ ltb (length out) (length (doneOn ws bytes .says))
-  unfolding answerBy
+  unfolding answerBy given
   twelve-exactly out = go (ltb (length out) (length (doneOn ws bytes .says)))
     where
-      go : (c : Bool) → eqb (cond {A = Answered} c (record { long = 0; words = ws; bytes = out }) (record { long = length (doneOn ws bytes .says); words = doneOn ws bytes .words; bytes = doneOn ws bytes .says ++ drop (length (doneOn ws bytes .says)) out }) .long) 0 ≡ c
+      go : (c : Bool) → eqb (given out c .long) 0 ≡ c
       go true = refl
       go false = ne-eqb (length (doneOn ws bytes .says)) 0 (λ e. omega (arith, within .some))
 
@@ -164,7 +180,8 @@ module _ (ws bytes : List ℕ) where
   -- and a message that is not answered changed nothing
   pub unanswered : (out : List ℕ) → answerOn ws bytes out .long ≡ 0 → (answerOn ws bytes out .words ≡ ws) × (answerOn ws bytes out .bytes ≡ out)
   unanswered out none =
-      let a = short (doneOn ws bytes) ws out (ltb-true (length out) (length (doneOn ws bytes .says)) (sym (twelve-exactly out) ∙ eq-eqb (answerOn ws bytes out .long) 0 none)) in
+      let less = ltb-true (length out) (length (doneOn ws bytes .says)) (sym (twelve-exactly out) ∙ eq-eqb (answerOn ws bytes out .long) 0 none) in
+      let a = short (doneOn ws bytes) ws out less in
       (sym (a .leaves), sym (a .writes))
 
 -- the first byte of what is said is that of the reply
@@ -177,7 +194,8 @@ module _ (ws bytes : List ℕ) where
   bad-keeps : badOn ws .words ≡ ws
   bad-keeps = go (lawful ws) refl
     where
-      go : (c : Bool) → lawful ws ≡ c → cond {A = Lent} c (record { reply = refusal 1; words = wordsOf (bookOf ws) }) (record { reply = refusal 11; words = ws }) .words ≡ ws
+      go : (c : Bool) → lawful ws ≡ c
+          → cond {A = Lent} c (record { reply = refusal 1; words = wordsOf (bookOf ws) }) (record { reply = refusal 11; words = ws }) .words ≡ ws
       go true e = lawful-held ws (subst T (sym e) tt) .words
       go false e = refl
 
@@ -188,22 +206,21 @@ module _ (ws bytes : List ℕ) where
   firstOf d = getD (d .says) 0 0
 
   done-keeps : eqb (firstOf (doneOn ws bytes)) 5 ≡ false → eqb (firstOf (doneOn ws bytes)) 10 ≡ false → doneOn ws bytes .words ≡ ws
-  unfolding doneOn
+  unfolding doneOn done
   done-keeps = go (eqb (kindIn bytes) 1) (eqb (kindIn bytes) 3) (eqb (kindIn bytes) 4) (readable sendKind bytes)
     where
-      done : (gossip tap question send : Bool) → Done
-      done gossip tap question send =
-          cond gossip (doneBy (gossipOn ws bytes)) (cond tap (doneBy (tapOn ws bytes)) (cond question (doneBy (questionOn ws bytes)) (cond send (sendDone ws) (doneBy (badOn ws)))))
-
-      go : (gossip tap question send : Bool) → eqb (firstOf (done gossip tap question send)) 5 ≡ false → eqb (firstOf (done gossip tap question send)) 10 ≡ false → done gossip tap question send .words ≡ ws
+      go : (gossip tap question send : Bool) → let d = done ws bytes gossip tap question send in
+          eqb (firstOf d) 5 ≡ false → eqb (firstOf d) 10 ≡ false → d .words ≡ ws
       go true tap question send e f = gossip-keeps ws bytes (off (sym (first-gossiped (gossipOn ws bytes .reply))) f)
       go false true question send e f = tap-keeps ws bytes (off (sym (first-taken (tapOn ws bytes .reply))) e)
       go false false true send e f = question-keeps ws bytes
       go false false false true e f = refl
       go false false false false e f = bad-keeps
 
-  pub answer-keeps : (out : List ℕ) → eqb (kindSaid (answerOn ws bytes out)) 5 ≡ false → eqb (kindSaid (answerOn ws bytes out)) 10 ≡ false → answerOn ws bytes out .words ≡ ws
-  unfolding answerBy
+  pub answer-keeps :
+      (out : List ℕ) → let a = answerOn ws bytes out in
+      eqb (kindSaid a) 5 ≡ false → eqb (kindSaid a) 10 ≡ false → a .words ≡ ws
+  unfolding answerBy given
   answer-keeps out = go (ltb (length out) (length says))
     where
       says : List ℕ
@@ -212,10 +229,7 @@ module _ (ws bytes : List ℕ) where
       first : cond (eqb (length says) 0) 0 (getD (says ++ drop (length says) out) 0 0) ≡ getD says 0 0
       first = first-said says (drop (length says) out) (within ws bytes .some)
 
-      given : Bool → Answered
-      given short = cond short (record { long = 0; words = ws; bytes = out }) (record { long = length says; words = doneOn ws bytes .words; bytes = says ++ drop (length says) out })
-
-      go : (short : Bool) → eqb (kindSaid (given short)) 5 ≡ false → eqb (kindSaid (given short)) 10 ≡ false → given short .words ≡ ws
+      go : (short : Bool) → let a = given ws bytes out short in eqb (kindSaid a) 5 ≡ false → eqb (kindSaid a) 10 ≡ false → a .words ≡ ws
       go true e f = refl
       go false e f = done-keeps (ap (λ (k : ℕ). eqb k 5) (sym first) ∙ e) (ap (λ (k : ℕ). eqb k 10) (sym first) ∙ f)
 

@@ -26,25 +26,31 @@ use Rattle.speech.specs.SpeechLaws.{says-put, reply-long, open-says}
 use Rattle.answering.specs.Answer.{doneOn, answerOn, Answers, openFrom}
 use Rattle.answering.specs.AnswerLaws.{front, within, room-most, unsound-says}
 use Rattle.program.specs.Said.{bad}
-use Rattle.program.specs.Turn.{Turned, lastTurn, moreTurn, openTurn, messageTurn, turnBy, turnOn, Turns}
+use Rattle.program.specs.Turn.{Turned, lastTurn, quietTurn, moreTurn, openTurn, messageTurn, turnBy, turnOn, Turns}
 use Rattle.program.specs.declared.Turn.{Turn}
 use Rattle.program.specs.declared.Turn.the-variants.{Read, Say, Last, Stop}
 
 -- a refusal has two bytes, which the output has
-module _ (k : ℕ) (out : List ℕ) (w : Written) (bytes : List ℕ) (t : T (sayable (refusal k))) (room : longest ≤ length out) (m : Meets (sayOn (refusal k) out) w bytes) where
-  stands : sayOn (refusal k) out ≡ record { answer = Wrote (length (bytesFor (refusal k))); bytes = bytesFor (refusal k) ++ drop (length (bytesFor (refusal k))) out }
+module _ (k : ℕ) (out : List ℕ) (w : Written) (bytes : List ℕ) (t : T (sayable (refusal k))) (room : longest ≤ length out)
+    (m : Meets (sayOn (refusal k) out) w bytes) where
+  abbrev said : List ℕ
+  said = bytesFor (refusal k)
+
+  abbrev fronted : Output
+  fronted = record { answer = Wrote (length said); bytes = said ++ drop (length said) out }
+
+  stands : sayOn (refusal k) out ≡ fronted
   stands =
       says-put (refusal k) out t
-      ∙ ap (λ (c : Bool). cond c (refuse 12 out) (record { answer = Wrote (length (bytesFor (refusal k))); bytes = bytesFor (refusal k) ++ drop (length (bytesFor (refusal k))) out }))
-      (le-ltb (length out) (length (bytesFor (refusal k))) (omega (arith, reply-long (refusal k) t)))
+      ∙ ap (λ (c : Bool). cond c (refuse 12 out) fronted) (le-ltb (length out) (length said) (omega (arith, reply-long (refusal k) t)))
 
-  wrote : w ≡ Wrote (length (bytesFor (refusal k)))
+  wrote : w ≡ Wrote (length said)
   wrote = m .answers ∙ ap (λ (o : Output). o .answer) stands
 
-  pub refusal-said : (n : ℕ) → w ≡ Wrote n → (Last n ≡ Last (length (bytesFor (refusal k)))) × (bytes ≡ bytesFor (refusal k) ++ drop (length (bytesFor (refusal k))) out)
+  pub refusal-said : (n : ℕ) → w ≡ Wrote n → (Last n ≡ Last (length said)) × (bytes ≡ said ++ drop (length said) out)
   refusal-said n e =
       let q = wrote in
-      let same : n ≡ length (bytesFor (refusal k)) = cc in
+      let same : n ≡ length said = cc in
       (ap Last same, m .leaves ∙ ap (λ (o : Output). o .bytes) stands)
 
   pub refusal-unsaid : (j : ℕ) → w ≡ Refused j → ⊥
@@ -55,17 +61,21 @@ unfolding writable figures refusalKind inTable
 bad-says = tt
 
 -- bytes that are said last
-pub last-owes : (words says out : List ℕ) (r : Turn) (bytes : List ℕ) → r ≡ Last (length says) → bytes ≡ says ++ drop (length says) out → Turns (lastTurn words says) r words out bytes
+pub last-owes :
+    (words says out : List ℕ) (r : Turn) (bytes : List ℕ) → r ≡ Last (length says) → bytes ≡ says ++ drop (length says) out
+    → Turns (lastTurn words says) r words out bytes
 last-owes words says out r bytes e f = record { gives = e; leaves = refl; writes = f }
 
 -- more is needed
 module _ (words read : List ℕ) (ended opened : Bool) (n : ℕ) (out : List ℕ) where
   abbrev moreBy : Bool → Bool → Turned
-  moreBy c d = cond c (cond d (record { turn = Stop; words = words; says = [] }) (lastTurn words bad)) (record { turn = Read n; words = words; says = [] })
+  moreBy c d = cond c (cond d (quietTurn Stop words) (lastTurn words bad)) (quietTurn (Read n) words)
 
   by-tests : (c d : Bool) → ended ≡ c → (opened && eqb (length read) 0) ≡ d → (r : Turn) (bytes : List ℕ) → Turns (moreBy c d) r words out bytes
       → Turns (moreTurn words read ended opened n) r words out bytes
-  by-tests c d e f r bytes t = subst (λ (x : Bool). Turns (moreBy x (opened && eqb (length read) 0)) r words out bytes) (sym e) (subst (λ (x : Bool). Turns (moreBy c x) r words out bytes) (sym f) t)
+  by-tests c d e f r bytes t =
+      subst (λ (x : Bool). Turns (moreBy x (opened && eqb (length read) 0)) r words out bytes) (sym e)
+      (subst (λ (x : Bool). Turns (moreBy c x) r words out bytes) (sym f) t)
 
   pub more-reads : ended ≡ false → Turns (moreTurn words read ended opened n) (Read n) words out out
   more-reads e = by-tests false (opened && eqb (length read) 0) e refl (Read n) out (record { gives = refl; leaves = refl; writes = refl })
@@ -74,13 +84,14 @@ module _ (words read : List ℕ) (ended opened : Bool) (n : ℕ) (out : List ℕ
   more-stops e f = by-tests true true e f Stop out (record { gives = refl; leaves = refl; writes = refl })
 
   pub more-breaks :
-      ended ≡ true → (opened && eqb (length read) 0) ≡ false → (r : Turn) (bytes : List ℕ) → r ≡ Last (length bad) → bytes ≡ bad ++ drop (length bad) out
-      → Turns (moreTurn words read ended opened n) r words out bytes
+      ended ≡ true → (opened && eqb (length read) 0) ≡ false → (r : Turn) (bytes : List ℕ) → r ≡ Last (length bad)
+      → bytes ≡ bad ++ drop (length bad) out → Turns (moreTurn words read ended opened n) r words out bytes
   more-breaks e f r bytes p q = by-tests true false e f r bytes (last-owes words bad out r bytes p q)
 
 -- kind 11
 refused-says : (ws : List ℕ) (i n k : ℕ) (read right : Bool)
-    → cond read (openOn ws i n) (record { refused = some (cond right (refusal 1) (refusal 11)); words = ws }) .refused ≡ some (refusal k) → T (sayable (refusal k))
+    → cond read (openOn ws i n) (record { refused = some (cond right (refusal 1) (refusal 11)); words = ws }) .refused ≡ some (refusal k)
+    → T (sayable (refusal k))
 refused-says ws i n k true right e = open-says ws i n (refusal k) e
 refused-says ws i n k false true e = let z : refusal 1 ≡ refusal k = cc in subst (λ (r : Reply). T (sayable r)) z bad-says
 refused-says ws i n k false false e = let z : refusal 11 ≡ refusal k = cc in subst (λ (r : Reply). T (sayable r)) z unsound-says
@@ -93,25 +104,28 @@ module _ (ws msg : List ℕ) (r : opening.Opening) (words : List ℕ) (o : Opens
   unfolding openFrom
   opening-says k q =
       let line = lineOf openKind msg in
-      refused-says ws (getD line 1 0) (getD line 2 0) k (readable openKind msg) (eqb (length ws) bookLong) (refused-is (some (refusal k)) (ap spokenOpening q))
+      refused-says ws (getD line 1 0) (getD line 2 0) k (readable openKind msg) (eqb (length ws) bookLong)
+      (refused-is (some (refusal k)) (ap spokenOpening q))
 
-  turned : (x : Option Reply) → spokenOpening r ≡ x → (t : Turn) (bytes : List ℕ) → Turns (openTurn (length msg) x (openFrom ws msg .words)) t words out bytes
-      → Turns (openTurn (length msg) (openFrom ws msg .refused) (openFrom ws msg .words)) t words out bytes
-  turned x e t bytes q = subst (λ (y : Option Reply). Turns (openTurn (length msg) y (openFrom ws msg .words)) t words out bytes) (sym (refused-is x e)) q
+  abbrev turnFor : Option Reply → Turned
+  turnFor x = openTurn (length msg) x (openFrom ws msg .words)
 
-  pub opens-silent : r ≡ opened.Opened → Turns (openTurn (length msg) (openFrom ws msg .refused) (openFrom ws msg .words)) (Say (length msg) 0) words out out
+  turned : (x : Option Reply) → spokenOpening r ≡ x → (t : Turn) (bytes : List ℕ) → Turns (turnFor x) t words out bytes
+      → Turns (messageTurn ws msg false) t words out bytes
+  turned x e t bytes q = subst (λ (y : Option Reply). Turns (turnFor y) t words out bytes) (sym (refused-is x e)) q
+
+  pub opens-silent : r ≡ opened.Opened → Turns (messageTurn ws msg false) (Say (length msg) 0) words out out
   opens-silent q = turned none (ap spokenOpening q) (Say (length msg) 0) out (record { gives = refl; leaves = o .leaves; writes = refl })
 
   pub opens-refused :
       (k : ℕ) → r ≡ opened.Refused k → (t : Turn) (bytes : List ℕ) → t ≡ Last (length (bytesFor (refusal k)))
-      → bytes ≡ bytesFor (refusal k) ++ drop (length (bytesFor (refusal k))) out
-      → Turns (openTurn (length msg) (openFrom ws msg .refused) (openFrom ws msg .words)) t words out bytes
+      → bytes ≡ bytesFor (refusal k) ++ drop (length (bytesFor (refusal k))) out → Turns (messageTurn ws msg false) t words out bytes
   opens-refused k q t bytes e f = turned (some (refusal k)) (ap spokenOpening q) t bytes (record { gives = e; leaves = o .leaves; writes = f })
 
 -- a whole message
 module _ (ws msg out : List ℕ) (opened : Bool) where
   pub message-opens :
-      opened ≡ false → (t : Turn) (words bytes : List ℕ) → Turns (openTurn (length msg) (openFrom ws msg .refused) (openFrom ws msg .words)) t words out bytes
+      opened ≡ false → (t : Turn) (words bytes : List ℕ) → Turns (messageTurn ws msg false) t words out bytes
       → Turns (messageTurn ws msg opened) t words out bytes
   message-opens e t words bytes q = subst (λ (c : Bool). Turns (messageTurn ws msg c) t words out bytes) (sym e) q
 
@@ -121,12 +135,16 @@ module _ (ws msg out : List ℕ) (opened : Bool) where
   message-replies e room long words bytes a =
       let f = front (doneOn ws msg) ws out (omega (arith, within ws msg .fits, room-most msg)) in
       subst (λ (c : Bool). Turns (messageTurn ws msg c) (Say (length msg) long) words out bytes) (sym e)
-      (record { gives = ap (Say (length msg)) (a .gives ∙ sym (f .gives)); leaves = a .leaves ∙ sym (f .leaves); writes = a .writes ∙ sym (f .writes) })
+      (record {
+        gives = ap (Say (length msg)) (a .gives ∙ sym (f .gives));
+        leaves = a .leaves ∙ sym (f .leaves);
+        writes = a .writes ∙ sym (f .writes);
+      })
 
 -- the message is the part of what is read up to its end
 pub message-part :
-    (ws read : List ℕ) (opened : Bool) (out : List ℕ) (n k : ℕ) → k ≡ n → (t : Turn) (words bytes : List ℕ) → Turns (messageTurn ws (take k read) opened) t words out bytes
-    → Turns (messageTurn ws (take n read) opened) t words out bytes
+    (ws read : List ℕ) (opened : Bool) (out : List ℕ) (n k : ℕ) → k ≡ n → (t : Turn) (words bytes : List ℕ)
+    → Turns (messageTurn ws (take k read) opened) t words out bytes → Turns (messageTurn ws (take n read) opened) t words out bytes
 message-part ws read opened out n k e t words bytes q = subst (λ (x : ℕ). Turns (messageTurn ws (take x read) opened) t words out bytes) e q
 
 -- by what is read

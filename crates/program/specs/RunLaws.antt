@@ -19,15 +19,16 @@ use Rattle.frames.specs.NextLaws.{next-whole, next-least}
 use Rattle.frames.specs.declared.Frame.{Frame}
 use Rattle.frames.specs.declared.Frame.the-variants as frame
 use Rattle.answering.specs.Answer.{doneOn, openFrom}
-use Rattle.program.specs.Runs.{Desk, atFirst, turnAt, afterRead, afterEnd, afterSay, Goes, reads, ends, says, Says, last, stops, onward, Reached, begun, after}
+use Rattle.program.specs.Runs.{Desk, atFirst, turnAt, afterRead, afterEnd, afterSay, Goes, reads, ends, says}
+use Rattle.program.specs.Runs.{Says, last, stops, onward, Reached, begun, after}
 use Rattle.program.specs.Said.{bad, saidBy, saidIn}
-use Rattle.program.specs.Turn.{Turned, lastTurn, sayTurn, openTurn, turnBy, turnOn}
+use Rattle.program.specs.Turn.{lastTurn, quietTurn, sayTurn, openTurn, turnBy, turnOn}
 use Rattle.program.specs.TurnLaws.{Means, turn-means}
 use Rattle.program.specs.declared.Turn.{Turn}
 use Rattle.program.specs.declared.Turn.the-variants.{Read, Say, Last, Stop}
 
 -- once the end is met nothing is still to come
-abbrev Over : Desk → Type 0
+abbrev pub Over : Desk → Type 0
 Over d = T (d .ended) → d .rest ≡ []
 
 -- what is said in all: what is said so far, and what is said to all that is left
@@ -86,16 +87,14 @@ record Asked (read : List ℕ) (opened : Bool) : Type 0 where
 asks-more : (f : Frame) (words read : List ℕ) (ended opened : Bool) (n : ℕ) → turnBy f words read ended opened .turn ≡ Read n → f ≡ frame.More n
 asks-more (frame.More m) words read ended opened n e = by ended (opened && eqb (length read) 0) e
   where
-    by : (c d : Bool) → cond {A = Turned} c (cond d (record { turn = Stop; words = words; says = [] }) (lastTurn words bad)) (record { turn = Read m; words = words; says = [] }) .turn ≡ Read n
-        → frame.More m ≡ frame.More n
+    by : (c d : Bool) → cond c (cond d (quietTurn Stop words) (lastTurn words bad)) (quietTurn (Read m) words) .turn ≡ Read n → frame.More m ≡ frame.More n
     by true true q = let z : _≡_ {A = ℕ} 0 1 = cc in absurd (omega arith)
     by true false q = let z : _≡_ {A = ℕ} 0 1 = cc in absurd (omega arith)
     by false d q = let z : m ≡ n = cc in ap frame.More z
 asks-more (frame.Whole m) words read ended opened n e = by opened (openFrom words (take m read) .refused) e
   where
-    by : (c : Bool) (r : Option Reply)
-        → cond {A = Turned} c (sayTurn (length (take m read)) (doneOn words (take m read) .words) (doneOn words (take m read) .says))
-        (openTurn (length (take m read)) r (openFrom words (take m read) .words)) .turn ≡ Read n
+    by : (c : Bool) (r : Option Reply) → let msg = take m read in
+        cond c (sayTurn (length msg) (doneOn words msg .words) (doneOn words msg .says)) (openTurn (length msg) r (openFrom words msg .words)) .turn ≡ Read n
         → frame.Whole m ≡ frame.More n
     by true r q = let z : _≡_ {A = ℕ} 0 1 = cc in absurd (omega arith)
     by false none q = let z : _≡_ {A = ℕ} 0 1 = cc in absurd (omega arith)
@@ -106,16 +105,15 @@ says-whole : (f : Frame) (words read : List ℕ) (ended opened : Bool) (used k :
     → (m : ℕ) × (f ≡ frame.Whole m) × (used ≡ length (take m read))
 says-whole (frame.More m) words read ended opened used k e = absurd (by ended (opened && eqb (length read) 0) e)
   where
-    by : (c d : Bool) → cond {A = Turned} c (cond d (record { turn = Stop; words = words; says = [] }) (lastTurn words bad)) (record { turn = Read m; words = words; says = [] }) .turn ≡ Say used k → ⊥
+    by : (c d : Bool) → cond c (cond d (quietTurn Stop words) (lastTurn words bad)) (quietTurn (Read m) words) .turn ≡ Say used k → ⊥
     by true true q = let z : _≡_ {A = ℕ} 0 1 = cc in omega arith
     by true false q = let z : _≡_ {A = ℕ} 0 1 = cc in omega arith
     by false d q = let z : _≡_ {A = ℕ} 0 1 = cc in omega arith
 says-whole (frame.Whole m) words read ended opened used k e = (m, refl, by opened (openFrom words (take m read) .refused) e)
   where
-    by : (c : Bool) (r : Option Reply)
-        → cond {A = Turned} c (sayTurn (length (take m read)) (doneOn words (take m read) .words) (doneOn words (take m read) .says))
-        (openTurn (length (take m read)) r (openFrom words (take m read) .words)) .turn ≡ Say used k
-        → used ≡ length (take m read)
+    by : (c : Bool) (r : Option Reply) → let msg = take m read in
+        cond c (sayTurn (length msg) (doneOn words msg .words) (doneOn words msg .says)) (openTurn (length msg) r (openFrom words msg .words)) .turn ≡ Say used k
+        → used ≡ length msg
     by true r q = cc
     by false none q = cc
     by false (some x) q = let z : _≡_ {A = ℕ} 0 1 = cc in absurd (omega arith)
@@ -126,11 +124,13 @@ uses-all : (d : Desk) → (d .read ≡ []) ⊎ Asked (d .read) (d .opened) → (
 unfolding turnOn
 uses-all d a used k e = go (says-whole (nextOf (d .read) (d .opened)) (d .words) (d .read) (d .ended) (d .opened) used k e) a
   where
-    go : ((m : ℕ) × (nextOf (d .read) (d .opened) ≡ frame.Whole m) × (used ≡ length (take m (d .read)))) → (d .read ≡ []) ⊎ Asked (d .read) (d .opened) → used ≡ length (d .read)
+    go : ((m : ℕ) × (nextOf (d .read) (d .opened) ≡ frame.Whole m) × (used ≡ length (take m (d .read)))) → (d .read ≡ []) ⊎ Asked (d .read) (d .opened)
+        → used ≡ length (d .read)
     go w (inl q) = let x = next-whole (d .read) (d .opened) (w .0) (w .1) in absurd (omega (arith, x .0, x .1, ap length q))
     go w (inr q) =
         let x = next-whole (d .read) (d .opened) (w .0) (w .1) in
-        let l = next-least (q .first) (q .more) (d .opened) (q .asks) (w .0) (q .asked) (ap (λ (r : List ℕ). nextOf r (d .opened)) (sym (q .all)) ∙ w .1) in
+        let whole : nextOf (q .first ++ q .more) (d .opened) ≡ frame.Whole (w .0) = ap (λ (r : List ℕ). nextOf r (d .opened)) (sym (q .all)) ∙ w .1 in
+        let l = next-least (q .first) (q .more) (d .opened) (q .asks) (w .0) (q .asked) whole in
         omega (arith, w .2, length-take-le (w .0) (d .read) (x .1), x .1, l, q .most)
 
 nothing-left : (used : ℕ) (read : List ℕ) → used ≡ length read → drop used read ≡ []
@@ -183,7 +183,8 @@ some-run (suc m) d o h = go (λ d′ o′ s. some-run m d′ o′ (omega (arith,
         → (all : List ℕ) × Says d all
     read more n e [] q = then more (afterEnd d) (λ t. q) (ends n e q)
     read more n e (x ∷ rest) q =
-        then more (afterRead d 1) (over-read d o n 1 e) (reads n 1 e (omega arith) (omega (arith, means d o (Read n) e .1)) (omega (arith, ap length q)))
+        then more (afterRead d 1) (over-read d o n 1 e)
+        (reads n 1 e (omega arith) (omega (arith, means d o (Read n) e .1)) (omega (arith, ap length q)))
 
     go : ((d′ : Desk) → Over d′ → Goes d d′ → (all : List ℕ) × Says d′ all) → (t : Turn) → turnAt d .turn ≡ t → (all : List ℕ) × Says d all
     go more (Read n) e = read more n e (d .rest) refl

@@ -33,7 +33,8 @@ more-turns (suc f) zero ws [] h k = refl
 more-turns (suc f) zero ws (x ∷ left) h k = absurd (omega arith)
 more-turns (suc f) (suc g) ws [] h k = refl
 more-turns (suc f) (suc g) ws (x ∷ left) h k =
-    go (λ n e. more-turns f g (doneOn ws (take n (x ∷ left)) .words) (drop n (x ∷ left)) (fewer x left f n e h) (fewer x left g n e k)) (nextOf (x ∷ left) true) refl
+    go (λ n e. more-turns f g (doneOn ws (take n (x ∷ left)) .words) (drop n (x ∷ left)) (fewer x left f n e h) (fewer x left g n e k))
+    (nextOf (x ∷ left) true) refl
   where
     says : ℕ → List ℕ
     says n = doneOn ws (take n (x ∷ left)) .says
@@ -66,7 +67,8 @@ module _ (ws : List ℕ) where
   said-turn (x ∷ left) n e =
       let done = doneOn ws (take n (x ∷ left)) in
       let after = drop n (x ∷ left) in
-      rw e (ap (λ (l : List ℕ). done .says ++ l) (more-turns (length left) (length after) (done .words) after (fewer x left (length left) n e (omega arith)) (omega arith)))
+      let shorter = fewer x left (length left) n e (omega arith) in
+      rw e (ap (λ (l : List ℕ). done .says ++ l) (more-turns (length left) (length after) (done .words) after shorter (omega arith)))
 
 -- kind 11 first
 module _ (ws input : List ℕ) where

@@ -27,6 +27,10 @@ pub record Turned : Type 0 where
 abbrev pub lastTurn : List ℕ → List ℕ → Turned
 lastTurn words says = record { turn = Last (length says); words = words; says = says }
 
+-- nothing is said, and no word changes
+abbrev pub quietTurn : Turn → List ℕ → Turned
+quietTurn turn words = record { turn = turn; words = words; says = [] }
+
 -- so many bytes of what is read are used, and bytes are said
 abbrev pub sayTurn : ℕ → List ℕ → List ℕ → Turned
 sayTurn used words says = record { turn = Say used (length says); words = words; says = says }
@@ -35,8 +39,7 @@ sayTurn used words says = record { turn = Say used (length says); words = words;
 -- message or before kind 11
 abbrev pub moreTurn : List ℕ → List ℕ → Bool → Bool → ℕ → Turned
 moreTurn words read ended opened n =
-    cond ended (cond (opened && eqb (length read) 0) (record { turn = Stop; words = words; says = [] }) (lastTurn words bad))
-    (record { turn = Read n; words = words; says = [] })
+    cond ended (cond (opened && eqb (length read) 0) (quietTurn Stop words) (lastTurn words bad)) (quietTurn (Read n) words)
 
 -- kind 11 says nothing, or its refusal, which stops the program
 abbrev pub openTurn : ℕ → Option Reply → List ℕ → Turned

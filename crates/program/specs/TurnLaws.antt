@@ -25,7 +25,7 @@ use Rattle.speech.specs.Speech.{bytesFor}
 use Rattle.answering.specs.Answer.{doneOn, openFrom}
 use Rattle.program.specs.Said.{bad, saidFrom, saidBy, saidIn}
 use Rattle.program.specs.SaidLaws.{said-end, said-broken, said-turn, begin-broken, begin-refused, begin-opened}
-use Rattle.program.specs.Turn.{Turned, lastTurn, openTurn, messageTurn, turnBy, turnOn, Turns}
+use Rattle.program.specs.Turn.{Turned, lastTurn, quietTurn, openTurn, messageTurn, turnBy, turnOn, Turns}
 use Rattle.program.specs.declared.Turn.{Turn}
 use Rattle.program.specs.declared.Turn.the-variants.{Read, Say, Last, Stop}
 
@@ -50,15 +50,10 @@ module _ (words read rest : List ℕ) (ended opened : Bool) (over : T ended → 
   -- and what is left has the rest. The last turn says all that is still to be said; without a word it is nothing.
   abbrev pub Means : Turn → Turned → Type 0
   Means (Read n) o = (ended ≡ false) × (length read < n) × (n ≤ longest)
-  Means (Say n k) o = (saidIn opened words all ≡ o .says ++ saidIn true (o .words) (drop n read ++ rest)) × (1 ≤ n) × (n ≤ length read) × (k ≡ length (o .says))
+  Means (Say n k) o =
+      (saidIn opened words all ≡ o .says ++ saidIn true (o .words) (drop n read ++ rest)) × (1 ≤ n) × (n ≤ length read) × (k ≡ length (o .says))
   Means (Last k) o = (saidIn opened words all ≡ o .says) × (k ≡ length (o .says))
   Means Stop o = saidIn opened words all ≡ []
-
-  abbrev stopTurn : Turned
-  stopTurn = record { turn = Stop; words = words; says = [] }
-
-  abbrev readTurn : ℕ → Turned
-  readTurn n = record { turn = Read n; words = words; says = [] }
 
   broken-said : (f : Frame) → nextOf all opened ≡ f → ((n : ℕ) → f ≡ frame.Whole n → ⊥) → (T opened → 0 < length all) → saidIn opened words all ≡ bad
   broken-said f e never more = go opened e more
@@ -68,7 +63,7 @@ module _ (words read rest : List ℕ) (ended opened : Bool) (over : T ended → 
       go false q s = begin-broken words all f q never
 
   more-means : (n : ℕ) → nextOf read opened ≡ frame.More n → (c : Bool) → ended ≡ c → (d : Bool) → (opened && eqb (length read) 0) ≡ d
-      → let o = cond c (cond d stopTurn (lastTurn words bad)) (readTurn n) in Means (o .turn) o
+      → let o = cond c (cond d (quietTurn Stop words) (lastTurn words bad)) (quietTurn (Read n) words) in Means (o .turn) o
   more-means n e false f d g = let m = next-more read opened n e in (f, m .0, m .1)
   more-means n e true f d g = ends (over (subst T (sym f) tt)) d g
     where
@@ -86,7 +81,7 @@ module _ (words read rest : List ℕ) (ended opened : Bool) (over : T ended → 
       something false left q t = absurd t
 
       ends : rest ≡ [] → (d : Bool) → (opened && eqb (length read) 0) ≡ d
-          → let o = cond d stopTurn (lastTurn words bad) in Means (o .turn) o
+          → let o = cond d (quietTurn Stop words) (lastTurn words bad) in Means (o .turn) o
       ends r true q = ap (saidIn opened words) (here r) ∙ nothing opened read q
       ends r false q = (
         broken-said (frame.More n) (ap (λ (l : List ℕ). nextOf l opened) (here r) ∙ e) (more-not-whole n)
@@ -118,7 +113,8 @@ module _ (words read rest : List ℕ) (ended opened : Bool) (over : T ended → 
     opened-at c f = (ap (λ (x : Bool). saidIn x words all) f, ap (nextOf all) (sym f) ∙ still)
 
     replied : opened ≡ true
-        → saidIn opened words all ≡ doneOn words (take n read) .says ++ saidFrom (doneOn words (take n read) .words) (drop (length (take n read)) read ++ rest)
+        → let done = doneOn words (take n read) in
+        saidIn opened words all ≡ done .says ++ saidFrom (done .words) (drop (length (take n read)) read ++ rest)
     replied f =
         let o = opened-at true f in
         o .0 ∙ said-turn words all n (o .1) ∙ ap₂ (λ (m l : List ℕ). doneOn words m .says ++ saidFrom (doneOn words m .words) l) front behind
@@ -159,7 +155,8 @@ module _ (words read rest : List ℕ) (ended opened : Bool) (over : T ended → 
 
 -- what a turn asks for and says is within what the loop that drives it has: more is read only up to the longest message, and what is
 -- said stands in the output
-module _ (words read : List ℕ) (ended opened : Bool) (t : Turn) (after out bytes : List ℕ) (p : Turns (turnOn words read ended opened) t after out bytes) where
+module _ (words read : List ℕ) (ended opened : Bool) (t : Turn) (after out bytes : List ℕ)
+    (p : Turns (turnOn words read ended opened) t after out bytes) where
   -- what the turn that was given tells of an input that ends here
   pub turn-told : (x : Turn) → t ≡ x → Means words read [] ended opened (λ e. refl) x (turnOn words read ended opened)
   turn-told x e =

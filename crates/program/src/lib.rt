@@ -9,7 +9,7 @@ use speech::speak;
 use wire::BAD;
 use wire::Written;
 ghost use mathlib.Core.Path.{_≡_};
-ghost use mathlib.Core.Bool.{_&&_};
+ghost use mathlib.Core.Bool.{false, _&&_};
 ghost use mathlib.Core.List.{_++_};
 ghost use Prim.Native.Nat.{_≤_};
 ghost use lib.Dec.{T, eqb};
@@ -17,8 +17,7 @@ ghost use lib.ListN.{length, drop};
 ghost use Rattle.wire.specs.Kinds.{longest};
 ghost use Rattle.meaning.specs.Reply.{refusal};
 ghost use Rattle.speech.specs.Speech.{bytesFor, sayable};
-ghost use Rattle.answering.specs.Answer.{openFrom};
-ghost use Rattle.program.specs.Turn.{moreTurn, openTurn, messageTurn, turnOn, Turns};
+ghost use Rattle.program.specs.Turn.{moreTurn, messageTurn, turnOn, Turns};
 ghost use Rattle.program.specs.declared.Turn.the-variants.{Last};
 
 // Read until so many bytes are there in all, or the input ends; so many bytes of what is read are used up, and so many at the output's
@@ -71,7 +70,7 @@ fn more_turn(book: &[u64], read: &[u8], ended: bool, opened: bool, n: usize, out
 // The first message opens the book.
 fn open_turn(book: &mut [u64], msg: &[u8], out: &mut [u8]) -> Turn
     requires { ⌜ longest ≤ length (now out) ⌝ }
-    ensures { λ r. ⌜ Turns (openTurn (length (now (msg .entry))) (openFrom (now (book .entry)) (now (msg .entry)) .refused) (openFrom (now (book .entry)) (now (msg .entry)) .words)) r (now (book .exit)) (now (out .entry)) (now (out .exit)) ⌝ }
+    ensures { λ r. ⌜ Turns (messageTurn (now (book .entry)) (now (msg .entry)) false) r (now (book .exit)) (now (out .entry)) (now (out .exit)) ⌝ }
 {
     let opening = open_from(book, msg);
     match opening {

@@ -21,12 +21,13 @@ abbrev entry : tie.After-gossip-stop → tie.Start
 entry k = k .before .before .before .before .before
 
 -- a stop with a reply, and none
-stopped : (w : tie.After-stop) → let s = entry (w .before .before) .args in Promise (gossipOn (s .b .now) (s .msg .now)) (w .stop .given .0 .0) (s .b .now)
+stopped : (w : tie.After-stop) → let s = entry (w .before .before) .args in
+    Promise (gossipOn (s .b .now) (s .msg .now)) (w .stop .given .0 .0) (s .b .now)
 stopped w =
     let k = w .before .before in
     let s = entry k .args in
-    owes-stop _ _ (s .b .now)
-    (gossip-stopped (s .b .now) (s .msg .now) _ (subst (λ (x : GossipStop). GossipStopOn (s .b .now) (s .msg .now) x) (w .stop .given .1) (k .gossip-stop .ensures)))
+    let stop = subst (λ (x : GossipStop). GossipStopOn (s .b .now) (s .msg .now) x) (w .stop .given .1) (k .gossip-stop .ensures) in
+    owes-stop _ _ (s .b .now) (gossip-stopped (s .b .now) (s .msg .now) _ stop)
 
 clear : (w : tie.After-stop2) → let s = entry (w .before .before) .args in let h = w .stop2 .given .0 in
     GossipStopOn (s .b .now) (s .msg .now) (Clear (h .0) (h .1 .0) (h .1 .1 .0) (h .1 .1 .1 .0) (h .1 .1 .1 .1 .0))
@@ -45,7 +46,8 @@ returns : tie.Need-returns
 returns c =
     let w = c .before .before in
     let s = entry (w .before .before) .args in
-    short (doneBy (gossipOn (s .b .now) (s .msg .now))) (s .b .now) (s .out .now) (omega (arith, c .if1 .taken, gossip-room (s .b .now) (s .msg .now) (clear w .0)))
+    short (doneBy (gossipOn (s .b .now) (s .msg .now))) (s .b .now) (s .out .now)
+    (omega (arith, c .if1 .taken, gossip-room (s .b .now) (s .msg .now) (clear w .0)))
 
 take-gossip-requires : tie.Need-take-gossip-requires
 take-gossip-requires c κs =
@@ -55,7 +57,8 @@ take-gossip-requires c κs =
     (may .0, (clear w .1, (may .1, clear w .2)))
 
 -- what the taken gossip promises
-taken : (t : tie.After-take-gossip) → let s = entry (t .before .before .before .before .before .before) .args in Promise (gossipOn (s .b .now) (s .msg .now)) (t .take-gossip .result) (t .take-gossip .last .0)
+taken : (t : tie.After-take-gossip) → let s = entry (t .before .before .before .before .before .before) .args in
+    Promise (gossipOn (s .b .now) (s .msg .now)) (t .take-gossip .result) (t .take-gossip .last .0)
 taken t =
     let w = t .before .before .before .before in
     let s = entry (w .before .before) .args in

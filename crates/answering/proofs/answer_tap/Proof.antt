@@ -21,14 +21,16 @@ abbrev entry : tie.After-tap-stop → tie.Start
 entry k = k .before .before .before .before .before
 
 -- a stop with a reply, and none
-stopped : (w : tie.After-stop) → let s = entry (w .before .before) .args in Promise (tapOn (s .b .now) (s .msg .now)) (w .stop .given .0 .0) (s .b .now)
+stopped : (w : tie.After-stop) → let s = entry (w .before .before) .args in
+    Promise (tapOn (s .b .now) (s .msg .now)) (w .stop .given .0 .0) (s .b .now)
 stopped w =
     let k = w .before .before in
     let s = entry k .args in
-    owes-stop _ _ (s .b .now)
-    (tap-stopped (s .b .now) (s .msg .now) _ (subst (λ (x : TapStop). TapStopOn (s .b .now) (s .msg .now) x) (w .stop .given .1) (k .tap-stop .ensures)))
+    let stop = subst (λ (x : TapStop). TapStopOn (s .b .now) (s .msg .now) x) (w .stop .given .1) (k .tap-stop .ensures) in
+    owes-stop _ _ (s .b .now) (tap-stopped (s .b .now) (s .msg .now) _ stop)
 
-clear : (w : tie.After-stop2) → let s = entry (w .before .before) .args in TapStopOn (s .b .now) (s .msg .now) (Clear (w .stop2 .given .0 .0) (w .stop2 .given .0 .1 .0))
+clear : (w : tie.After-stop2) → let s = entry (w .before .before) .args in
+    TapStopOn (s .b .now) (s .msg .now) (Clear (w .stop2 .given .0 .0) (w .stop2 .given .0 .1 .0))
 clear w =
     let k = w .before .before in
     let s = entry k .args in
@@ -44,7 +46,8 @@ returns : tie.Need-returns
 returns c =
     let w = c .before .before in
     let s = entry (w .before .before) .args in
-    short (doneBy (tapOn (s .b .now) (s .msg .now))) (s .b .now) (s .out .now) (omega (arith, c .if1 .taken, tap-room (s .b .now) (s .msg .now) (clear w .0)))
+    short (doneBy (tapOn (s .b .now) (s .msg .now))) (s .b .now) (s .out .now)
+    (omega (arith, c .if1 .taken, tap-room (s .b .now) (s .msg .now) (clear w .0)))
 
 take-tap-requires : tie.Need-take-tap-requires
 take-tap-requires c κs =
@@ -53,7 +56,8 @@ take-tap-requires c κs =
     tap-may (s .b .now) (s .msg .now) _ _ (clear w)
 
 -- what the taken tap promises
-taken : (t : tie.After-take-tap) → let s = entry (t .before .before .before .before .before .before) .args in Promise (tapOn (s .b .now) (s .msg .now)) (t .take-tap .result) (t .take-tap .last .0)
+taken : (t : tie.After-take-tap) → let s = entry (t .before .before .before .before .before .before) .args in
+    Promise (tapOn (s .b .now) (s .msg .now)) (t .take-tap .result) (t .take-tap .last .0)
 taken t =
     let w = t .before .before .before .before in
     let s = entry (w .before .before) .args in

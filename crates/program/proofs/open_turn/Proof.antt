@@ -12,7 +12,8 @@ last-refusal-requires : tie.Need-last-refusal-requires
 last-refusal-requires c κs =
     let o = c .before .before .before .before .before .before in
     let s = entry o in
-    (opening-says (s .args .book .now) (s .args .msg .now) _ _ (o .open-from .ensures) (s .args .out .now) _ (c .before .before .opening .given .1), s .pre)
+    let w = s .args in
+    (opening-says (w .book .now) (w .msg .now) _ _ (o .open-from .ensures) (w .out .now) _ (c .before .before .opening .given .1), s .pre)
 
 returns : tie.Need-returns
 returns c =
@@ -26,7 +27,8 @@ returns-2 c =
     let p = r .before .before .before in
     let o = p .before .before .before .before in
     let s = entry o .args in
-    opens-refused (s .book .now) (s .msg .now) _ _ (o .open-from .ensures) (s .out .now) _ (p .opening .given .1) _ _ (r .last-refusal .ensures .0) (r .last-refusal .ensures .1)
+    opens-refused (s .book .now) (s .msg .now) _ _ (o .open-from .ensures) (s .out .now) _ (p .opening .given .1)
+    _ _ (r .last-refusal .ensures .0) (r .last-refusal .ensures .1)
 
 pub open-turn-spec : {M : Type 1} → statement M
 open-turn-spec =

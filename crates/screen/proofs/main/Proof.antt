@@ -25,7 +25,7 @@ front-long have msg h = let z : have - 0 ≡ have = omega arith in rw (z, length
 abbrev head : tie.After-next-turn Inv-loop μ-loop → tie.At-loop Inv-loop μ-loop
 head t = t .before .before .before .before .before .before
 
-reading : (k : tie.After-turn Inv-loop μ-loop) → (head (k .before .before .before .before) .loop .have < k .turn .given .0 .0) × (k .turn .given .0 .0 ≤ 12069)
+reading : (k : tie.After-turn Inv-loop μ-loop) → let n = k .turn .given .0 .0 in (head (k .before .before .before .before) .loop .have < n) × (n ≤ 12069)
 reading k =
     let t = k .before .before .before .before in
     let l = head t .loop in
@@ -43,13 +43,19 @@ sub-ended c =
     within
 
 loop-again : tie.Need-loop-again Inv-loop μ-loop
-loop-again c = let r = reading (c .before .before .before .before) in (search needs, search needs, search needs, omega (arith, r .0, r .1, c .before .read-on .ensures))
+loop-again c =
+    let r = reading (c .before .before .before .before) in
+    (search needs, search needs, search needs, omega (arith, r .0, r .1, c .before .read-on .ensures))
 
 write-front-requires : tie.Need-write-front-requires Inv-loop μ-loop
-write-front-requires c κs = say-within _ _ _ _ _ _ _ _ (c .before .before .before .before .before .before .next-turn .ensures) _ _ (c .before .before .turn2 .given .1) .2
+write-front-requires c κs =
+    let k = c .before .before in
+    say-within _ _ _ _ _ _ _ _ (k .before .before .before .before .next-turn .ensures) _ _ (k .turn2 .given .1) .2
 
 write-front-requires-2 : tie.Need-write-front-requires-2 Inv-loop μ-loop
-write-front-requires-2 c κs = last-within _ _ _ _ _ _ _ _ (c .before .before .before .before .before .before .next-turn .ensures) _ (c .before .before .turn3 .given .1)
+write-front-requires-2 c κs =
+    let k = c .before .before in
+    last-within _ _ _ _ _ _ _ _ (k .before .before .before .before .next-turn .ensures) _ (k .turn3 .given .1)
 
 pub main-spec : {M : Type 1} → statement M
 main-spec =

@@ -52,7 +52,7 @@ same : (k : tie.After-pack) → tapOf (k .pack .result) ≡ start k .args .tap
 same k = let s = start k in ap tapOf (k .pack .ensures) ∙ tap-word (s .args .tap) (fits-bits (s .args .tap) (s .pre .1 .0))
 
 -- what holds past each test
-own : (c : tie.Else1) → let s = entry c .args in ltb (part (known (bookOf (s .b .now))) ((bookOf (s .b .now)) .me)) (part (listOf (s .label)) ((bookOf (s .b .now)) .me)) ≡ false
+own : (c : tie.Else1) → let b = bookOf (entry c .args .b .now) in ltb (part (known b) (b .me)) (part (listOf (entry c .args .label)) (b .me)) ≡ false
 own c = sym (c .before .label-unknown .ensures) ∙ c .if1 .left
 
 new : (c : tie.Else2) → let s = start (packed c) .args in among ((bookOf (s .b .now)) .counted) (s .tap) ≡ false
@@ -151,8 +151,8 @@ returns-4 c =
     let k = packed e in
     let s = start k in
     let ws = s .args .b .now in
-    line-7 (bookOf ws) (s .args .tap) (listOf (s .args .label)) (lawful-sound ws (s .pre .0)) (s .pre .1 .0) (s .pre .1 .1) (own (k .before)) (new e) (none h)
-    (sym (c .before .is-spent .ensures) ∙ c .if4 .taken)
+    line-7 (bookOf ws) (s .args .tap) (listOf (s .args .label)) (lawful-sound ws (s .pre .0)) (s .pre .1 .0) (s .pre .1 .1)
+    (own (k .before)) (new e) (none h) (sym (c .before .is-spent .ensures) ∙ c .if4 .taken)
 
 returns-5 : tie.Need-returns-5
 unfolding logRoom
@@ -164,7 +164,8 @@ returns-5 c =
     let s = start k in
     let ws = s .args .b .now in
     let full = le-leb 256 (length (bookOf ws .log)) (omega (arith, log-count ws (lawful-held ws (s .pre .0)), c .if5 .taken)) in
-    line-9 (bookOf ws) (s .args .tap) (listOf (s .args .label)) (lawful-sound ws (s .pre .0)) (s .pre .1 .0) (s .pre .1 .1) (own (k .before)) (new e) (none h) (unspent u) full
+    line-9 (bookOf ws) (s .args .tap) (listOf (s .args .label)) (lawful-sound ws (s .pre .0)) (s .pre .1 .0) (s .pre .1 .1)
+    (own (k .before)) (new e) (none h) (unspent u) full
 
 returns-6 : tie.Need-returns-6
 unfolding logRoom
@@ -175,8 +176,12 @@ returns-6 c =
     let k = packed e in
     let s = start k in
     let ws = s .args .b .now in
-    let room = lt-leb 256 (length (bookOf ws .log)) (omega (arith, log-count ws (lawful-held ws (s .pre .0)), c .if5 .left)) in
-    (line-clear (bookOf ws) (s .args .tap) (listOf (s .args .label)) (lawful-sound ws (s .pre .0)) (s .pre .1 .0) (s .pre .1 .1) (own (k .before)) (new e) (none h) (unspent u) room, refl, refl)
+    let room = lt-leb 256 (length (bookOf ws .log)) (omega (arith, log-count ws (lawful-held ws (s .pre .0)), c .if5 .left)) in (
+      line-clear (bookOf ws) (s .args .tap) (listOf (s .args .label)) (lawful-sound ws (s .pre .0)) (s .pre .1 .0) (s .pre .1 .1)
+          (own (k .before)) (new e) (none h) (unspent u) room,
+      refl,
+      refl,
+    )
 
 pub stop-tap-spec : {M : Type 1} → statement M
 stop-tap-spec =

@@ -17,7 +17,8 @@ use Rattle.taking.proofs.take_tap.Statement.{statement}
 use Rattle.taking.proofs.take_tap.Tie as tie
 
 -- nothing stops the tap: it is done
-done : (s : tie.Start) → let w = s .args in TapDone (bookOf (w .b .now)) (w .tap) (listOf (w .label)) × (tapStep (bookOf (w .b .now)) (w .tap) (listOf (w .label)) ≡ tap-out (bookOf (w .b .now)) (w .tap) (listOf (w .label)))
+done : (s : tie.Start) → let b = bookOf (s .args .b .now) in let t = s .args .tap in let l = listOf (s .args .label) in
+    TapDone b t l × (tapStep b t l ≡ tap-out b t l)
 done s = let w = s .args in tap-by-none (bookOf (w .b .now)) (w .tap) (listOf (w .label)) (s .pre .1)
 
 -- the word is the tap's

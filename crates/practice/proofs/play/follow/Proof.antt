@@ -55,8 +55,10 @@ returns c =
     let l = head t in
     let s = entry l .args in
     let o = sym (c .enum-told .given .1) ∙ r .compare-at .ensures in
-    c .enum-told .given .1
-    ∙ sym (l .loop .inv .4 ∙ say-turn (l .loop .book) (s .input .now) (l .loop .out) (s .expected .now) (l .loop .at) (l .loop .place) (l .loop .opened) _ _ _ (t .next-turn .ensures) _ _ (k .turn .given .1) _ o)
+    let turn =
+    say-turn (l .loop .book) (s .input .now) (l .loop .out) (s .expected .now) (l .loop .at) (l .loop .place) (l .loop .opened)
+    _ _ _ (t .next-turn .ensures) _ _ (k .turn .given .1) _ o in
+    c .enum-told .given .1 ∙ sym (l .loop .inv .4 ∙ turn)
 
 add-at : tie.Need-add-at Inv-loop μ-loop
 add-at c = let b = inside (c .before .before .before .before .before .before .before) in search needs
@@ -72,7 +74,9 @@ loop-again c =
     let l = head t in
     let s = entry l .args in
     let o = sym (c .before .outcome .given .1) ∙ r .compare-at .ensures in
-    let turn = say-turn (l .loop .book) (s .input .now) (l .loop .out) (s .expected .now) (l .loop .at) (l .loop .place) (l .loop .opened) _ _ _ (t .next-turn .ensures) _ _ (k .turn .given .1) _ o in
+    let turn =
+    say-turn (l .loop .book) (s .input .now) (l .loop .out) (s .expected .now) (l .loop .at) (l .loop .place) (l .loop .opened)
+    _ _ _ (t .next-turn .ensures) _ _ (k .turn .given .1) _ o in
     (inside k .1, compared-within (l .loop .place) _ _ (s .expected .now) (l .loop .inv .1) (sym o), search needs, search needs, l .loop .inv .4 ∙ turn)
 
 part-compare-at-end-2 : tie.Need-part-compare-at-end-2 Inv-loop μ-loop
@@ -86,22 +90,29 @@ returns-2 c =
     let t = k .before .before .before .before .before .before in
     let l = head t in
     let s = entry l .args in
-    c .compare-at2 .ensures
-    ∙ sym (l .loop .inv .4 ∙ last-turn (l .loop .book) (s .input .now) (l .loop .out) (s .expected .now) (l .loop .at) (l .loop .place) (l .loop .opened) _ _ _ (t .next-turn .ensures) _ (k .turn2 .given .1))
+    let turn =
+    last-turn (l .loop .book) (s .input .now) (l .loop .out) (s .expected .now) (l .loop .at) (l .loop .place) (l .loop .opened)
+    _ _ _ (t .next-turn .ensures) _ (k .turn2 .given .1) in
+    c .compare-at2 .ensures ∙ sym (l .loop .inv .4 ∙ turn)
 
 returns-3 : tie.Need-returns-3 Inv-loop μ-loop
 returns-3 c =
     let t = c .before .before .before .before .before .before in
     let l = head t in
     let s = entry l .args in
-    sym (l .loop .inv .4 ∙ stop-turn (l .loop .book) (s .input .now) (l .loop .out) (s .expected .now) (l .loop .at) (l .loop .place) (l .loop .opened) _ _ _ (t .next-turn .ensures) (c .enum-told2 .given .1))
+    let turn =
+    stop-turn (l .loop .book) (s .input .now) (l .loop .out) (s .expected .now) (l .loop .at) (l .loop .place) (l .loop .opened)
+    _ _ _ (t .next-turn .ensures) (c .enum-told2 .given .1) in
+    sym (l .loop .inv .4 ∙ turn)
 
 returns-4 : tie.Need-returns-4 Inv-loop μ-loop
 returns-4 c =
     let t = c .before .before .before .before .before .before in
     let l = head t in
     let s = entry l .args in
-    absurd (never-reads (l .loop .book) (s .input .now) (l .loop .out) (s .expected .now) (l .loop .at) (l .loop .place) (l .loop .opened) _ _ _ (t .next-turn .ensures) _ (c .enum-told3 .given .1))
+    absurd
+    (never-reads (l .loop .book) (s .input .now) (l .loop .out) (s .expected .now) (l .loop .at) (l .loop .place) (l .loop .opened)
+    _ _ _ (t .next-turn .ensures) _ (c .enum-told3 .given .1))
 
 pub follow-spec : {M : Type 1} → statement M
 follow-spec =
