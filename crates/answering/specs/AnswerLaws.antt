@@ -202,15 +202,15 @@ module _ (ws bytes : List ℕ) where
   off : {c d : Bool} → c ≡ d → d ≡ false → T (not c)
   off e f = subst (λ (x : Bool). T (not x)) (sym (e ∙ f)) tt
 
-  abbrev firstOf : Done → ℕ
-  firstOf d = getD (d .says) 0 0
+  abbrev firstByte : Done → ℕ
+  firstByte d = getD (d .says) 0 0
 
-  done-keeps : eqb (firstOf (doneOn ws bytes)) 5 ≡ false → eqb (firstOf (doneOn ws bytes)) 10 ≡ false → doneOn ws bytes .words ≡ ws
+  done-keeps : eqb (firstByte (doneOn ws bytes)) 5 ≡ false → eqb (firstByte (doneOn ws bytes)) 10 ≡ false → doneOn ws bytes .words ≡ ws
   unfolding doneOn done
   done-keeps = go (eqb (kindIn bytes) 1) (eqb (kindIn bytes) 3) (eqb (kindIn bytes) 4) (readable sendKind bytes)
     where
       go : (gossip tap question send : Bool) → let d = done ws bytes gossip tap question send in
-          eqb (firstOf d) 5 ≡ false → eqb (firstOf d) 10 ≡ false → d .words ≡ ws
+          eqb (firstByte d) 5 ≡ false → eqb (firstByte d) 10 ≡ false → d .words ≡ ws
       go true tap question send e f = gossip-keeps ws bytes (off (sym (first-gossiped (gossipOn ws bytes .reply))) f)
       go false true question send e f = tap-keeps ws bytes (off (sym (first-taken (tapOn ws bytes .reply))) e)
       go false false true send e f = question-keeps ws bytes
