@@ -2,13 +2,11 @@
 use Prim.Native.Nat.{ℕ}
 use mathlib.Core.Path.{_≡_, refl, sym, ap, ap₂, _∙_}
 use mathlib.Core.List.{List, []}
-use mathlib.Core.Option.{some, none, Option·some-injective, Option·some-ne-none}
+use mathlib.Core.Option.{Option·some-injective, Option·some-ne-none}
 use Rattle.stamp.specs.Parts.{partsAt, listOf}
 use Rattle.stamp.specs.PartsLaws.{parts-list}
-use Rattle.stamp.specs.Stamp.{Stamp}
 use Rattle.stamp.specs.declared.Parts.{Parts}
 use Rattle.meaning.specs.Reply.{Reply}
-use Rattle.answers.specs.Lent.{tapStop, gossipStop}
 use Rattle.answers.specs.LentLaws.{one-outcome}
 use Rattle.answers.specs.Spoken.{spoken}
 use Rattle.answers.specs.declared.Reply as answer

@@ -1,7 +1,7 @@
 -- Framing at its edges: which kinds are expected, and what the next message is; one table, one claim. Assumes nothing.
 use Prim.Native.Nat.{ℕ}
 use mathlib.Core.Path.{_≡_, refl}
-use mathlib.Core.Bool.{Bool, true, false}
+use mathlib.Core.Bool.{true, false}
 use mathlib.Core.List.{List, [], _∷_, _++_}
 use lib.ListN.{replicate}
 use Rattle.lists.specs.Part.{mid}

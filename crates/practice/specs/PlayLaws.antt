@@ -2,10 +2,10 @@
 --     never-reads   nothing more is asked for
 --     say-turn      what is said is compared, and then what is said to what is left
 --     last-turn, stop-turn   the last turn says all that is still to be said
-use Prim.Native.Nat.{ℕ, _+_, _-_, _≤_}
+use Prim.Native.Nat.{ℕ, _+_, _-_}
 use native.Mathlib.Omega.{arith}
-use mathlib.Core.Path.{_≡_, refl, sym, ap, ap₂, subst, _∙_}
-use mathlib.Core.Bool.{Bool, true, false}
+use mathlib.Core.Path.{_≡_, sym, ap, ap₂, subst, _∙_}
+use mathlib.Core.Bool.{Bool, true}
 use mathlib.Core.List.{List, [], _++_, append-nil}
 use lib.Dec.{T}
 use lib.ListN.{length, take, drop}

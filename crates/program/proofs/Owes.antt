@@ -3,7 +3,7 @@ use Prim.Native.Nat.{ℕ, _≤_}
 use native.Mathlib.Omega.{arith}
 use mathlib.Core.Path.{_≡_, refl, sym, ap, subst, _∙_}
 use mathlib.Core.Bool.{Bool, true, false, cond, _&&_}
-use mathlib.Core.List.{List, [], _∷_, _++_}
+use mathlib.Core.List.{List, _++_}
 use mathlib.Core.Option.{Option, none, some}
 use borrow.Author.Tests.{le-ltb}
 use lib.Dec.{T, eqb}
@@ -56,9 +56,9 @@ module _ (k : ℕ) (out : List ℕ) (w : Written) (bytes : List ℕ) (t : T (say
   pub refusal-unsaid : (j : ℕ) → w ≡ Refused j → ⊥
   refusal-unsaid j e = let q = wrote in let z : _≡_ {A = ℕ} 0 1 = cc in omega arith
 
-pub bad-says : T (sayable (refusal 1))
+pub one-says : T (sayable (refusal 1))
 unfolding writable figures refusalKind inTable
-bad-says = tt
+one-says = tt
 
 -- bytes that are said last
 pub last-owes :
@@ -93,7 +93,7 @@ refused-says : (ws : List ℕ) (i n k : ℕ) (read right : Bool)
     → cond read (openOn ws i n) (record { refused = some (cond right (refusal 1) (refusal 11)); words = ws }) .refused ≡ some (refusal k)
     → T (sayable (refusal k))
 refused-says ws i n k true right e = open-says ws i n (refusal k) e
-refused-says ws i n k false true e = let z : refusal 1 ≡ refusal k = cc in subst (λ (r : Reply). T (sayable r)) z bad-says
+refused-says ws i n k false true e = let z : refusal 1 ≡ refusal k = cc in subst (λ (r : Reply). T (sayable r)) z one-says
 refused-says ws i n k false false e = let z : refusal 11 ≡ refusal k = cc in subst (λ (r : Reply). T (sayable r)) z unsound-says
 
 module _ (ws msg : List ℕ) (r : opening.Opening) (words : List ℕ) (o : Opens (openFrom ws msg) r words) (out : List ℕ) where

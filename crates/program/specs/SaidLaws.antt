@@ -5,7 +5,7 @@
 --     begin-broken, begin-refused, begin-opened   the same of a whole input, by its kind 11
 use Prim.Native.Nat.{ℕ, zero, suc, _≤_, _<_}
 use native.Mathlib.Omega.{arith}
-use mathlib.Core.Path.{_≡_, refl, ap, _∙_}
+use mathlib.Core.Path.{_≡_, refl, ap}
 use mathlib.Core.Bool.{true, false}
 use mathlib.Core.List.{List, [], _∷_, _++_}
 use mathlib.Core.Option.{none, some}
@@ -17,7 +17,7 @@ use Rattle.frames.specs.declared.Frame.{Frame}
 use Rattle.frames.specs.declared.Frame.the-variants.{More, Whole, Stop}
 use Rattle.speech.specs.Speech.{bytesFor}
 use Rattle.answering.specs.Answer.{doneOn, openFrom}
-use Rattle.program.specs.Said.{onWhole, bad, saidTo, saidFrom, openSays, saidBy}
+use Rattle.program.specs.Said.{onWhole, bad, saidTo, saidFrom, saidBy}
 
 -- what is left after a message is shorter
 fewer : (x : ℕ) (left : List ℕ) (m n : ℕ) → nextOf (x ∷ left) true ≡ Whole n → length (x ∷ left) ≤ suc m → length (drop n (x ∷ left)) ≤ m

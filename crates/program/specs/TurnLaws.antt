@@ -21,9 +21,8 @@ use Rattle.frames.specs.Next.{nextOf}
 use Rattle.frames.specs.NextLaws.{next-whole, next-more, next-settled}
 use Rattle.frames.specs.declared.Frame.{Frame}
 use Rattle.frames.specs.declared.Frame.the-variants as frame
-use Rattle.speech.specs.Speech.{bytesFor}
 use Rattle.answering.specs.Answer.{doneOn, openFrom}
-use Rattle.program.specs.Said.{bad, saidFrom, saidBy, saidIn}
+use Rattle.program.specs.Said.{bad, saidFrom, saidIn}
 use Rattle.program.specs.SaidLaws.{said-end, said-broken, said-turn, begin-broken, begin-refused, begin-opened}
 use Rattle.program.specs.Turn.{Turned, lastTurn, quietTurn, openTurn, messageTurn, turnBy, turnOn, Turns}
 use Rattle.program.specs.declared.Turn.{Turn}

@@ -19,10 +19,10 @@ kindAmong (k ∷ ks) bytes = cond (readable k bytes) (k .number) (kindAmong ks b
 unfoldable pub replyKind : List ℕ → ℕ
 replyKind bytes = kindAmong replyKinds bytes
 
--- a reader's answer says a message, and is no refusal
-abbrev pub any : List ℕ → Bool
-any [] = false
-any (x ∷ xs) = true
+-- a reader's answer says a message: it has values, and bytes that are refused have none
+abbrev pub notEmpty : List ℕ → Bool
+notEmpty [] = false
+notEmpty (x ∷ xs) = true
 
 unfoldable pub isMessage : Said → Bool
-isMessage v = any (figures v)
+isMessage v = notEmpty (figures v)

@@ -10,10 +10,10 @@ use Prim.Native.Nat.{ℕ, zero, suc, _+_, _^_, _≤_, _<_}
 use native.Mathlib.Omega.{arith}
 use mathlib.Core.Path.{_≡_, refl, sym, ap, subst, _∙_}
 use mathlib.Core.Bool.{Bool, true, false, not, _&&_, _||_, cond}
-use mathlib.Core.List.{List, [], _∷_, _++_}
+use mathlib.Core.List.{List, [], _∷_}
 use mathlib.Core.Option.{Option, none, some}
 use lib.Dec.{T, eqb, ltb, leb, lt→ltb, le→leb, leb→le}
-use lib.ListN.{length, getD, drop, replicate}
+use lib.ListN.{length, getD, replicate}
 use Rattle.lists.specs.Facts.{_∈_, here, there, either, clash, is-true, and-l, and-r, both, every-at, keep-le, keep-mem}
 use Rattle.lists.specs.MoreFacts.{first-passes}
 use Rattle.lists.specs.Tests.{every, exists, firstOf}

@@ -15,7 +15,6 @@ use Rattle.ledger.specs.Limits.{fewest, most, logRoom}
 use Rattle.ledger.specs.Message.{inRange}
 use Rattle.ledger.specs.Record.{recordFits, isKnown, knows}
 use Rattle.bigendian.specs.Number.{numberFrom, bytesOf}
-use Rattle.wire.specs.declared.Written.{Written}
 use Rattle.wire.specs.declared.Written.the-variants.{Wrote, Refused}
 use Rattle.wire.specs.Kinds.{Kind, bodyOf, shaped, inTable, headKind, recordKind, tapKind, questionKind, takenKind, alreadyKind, verdictKind, waitKind, refusalKind, gossipTakenKind, openKind}
 use Rattle.wire.specs.Read.{lineOf, readable}

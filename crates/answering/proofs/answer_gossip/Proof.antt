@@ -3,9 +3,8 @@ use mathlib.Core.Path.{refl, subst}
 use native.Mathlib.Omega.{arith}
 use Rattle.answers.specs.KeepsLaws.{gossip-stopped}
 use Rattle.answers.specs.Lent.{Promise, gossipOn}
-use Rattle.answers.specs.declared.Reply as answer
 use Rattle.gossiping.specs.declared.GossipStop.{GossipStop}
-use Rattle.gossiping.specs.declared.GossipStop.the-variants.{Stopped, Clear}
+use Rattle.gossiping.specs.declared.GossipStop.the-variants.{Clear}
 use Rattle.book.specs.Heard.{owes-stop, gossip-may, gossip-owes}
 use Rattle.book.specs.Stop.{GossipStopOn}
 use Rattle.speech.specs.SpeechLaws.{gossip-says}

@@ -3,9 +3,8 @@ use mathlib.Core.Path.{refl, subst}
 use native.Mathlib.Omega.{arith}
 use Rattle.answers.specs.KeepsLaws.{tap-stopped}
 use Rattle.answers.specs.Lent.{Promise, tapOn}
-use Rattle.answers.specs.declared.Reply as answer
 use Rattle.taking.specs.declared.TapStop.{TapStop}
-use Rattle.taking.specs.declared.TapStop.the-variants.{Stopped, Clear}
+use Rattle.taking.specs.declared.TapStop.the-variants.{Clear}
 use Rattle.book.specs.Heard.{owes-stop, tap-may, tap-owes}
 use Rattle.book.specs.Stop.{TapStopOn}
 use Rattle.speech.specs.SpeechLaws.{tap-says}

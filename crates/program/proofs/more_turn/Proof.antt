@@ -1,7 +1,7 @@
 -- `program::more_turn` meets its contract. Assumes nothing.
 use mathlib.Core.Path.{sym, _∙_}
 use borrow.Author.Tests.{not-true, not-false}
-use Rattle.program.proofs.Owes.{bad-says, more-reads, more-stops, more-breaks}
+use Rattle.program.proofs.Owes.{one-says, more-reads, more-stops, more-breaks}
 use borrow.Author.Needs.{needs}
 use Rattle.program.proofs.more_turn.Statement.{statement}
 use Rattle.program.proofs.more_turn.Tie as tie
@@ -22,7 +22,7 @@ returns-2 c =
     more-stops (s .book .now) (s .read .now) (s .ended) (s .opened) (s .n) (s .out .now) (not-false _ (e .if1 .left)) (sym (c .before .is-between .ensures) ∙ c .if2 .taken)
 
 last-refusal-requires : tie.Need-last-refusal-requires
-last-refusal-requires c κs = (bad-says, entry (c .before .before .before) .pre)
+last-refusal-requires c κs = (one-says, entry (c .before .before .before) .pre)
 
 returns-3 : tie.Need-returns-3
 returns-3 c =

@@ -4,7 +4,7 @@ use native.Mathlib.Omega.{arith}
 use mathlib.Core.Path.{_≡_, sym, _∙_}
 use Rattle.frames.specs.NextLaws.{next-whole}
 use Rattle.program.specs.Said.{bad}
-use Rattle.program.proofs.Owes.{bad-says, last-owes, message-part, turn-owes}
+use Rattle.program.proofs.Owes.{one-says, last-owes, message-part, turn-owes}
 use borrow.Author.Needs.{needs}
 use Rattle.program.proofs.next_turn.Statement.{statement}
 use Rattle.program.proofs.next_turn.Tie as tie
@@ -20,7 +20,7 @@ part-message-turn-end c =
     next-whole (s .read .now) (s .opened) _ (sym (f .next-in .ensures) ∙ c .before .before .frame2 .given .1) .1
 
 last-refusal-requires : tie.Need-last-refusal-requires
-last-refusal-requires c κs = (bad-says, entry (c .before .before .before) .pre)
+last-refusal-requires c κs = (one-says, entry (c .before .before .before) .pre)
 
 returns : tie.Need-returns
 returns c =

@@ -24,7 +24,6 @@ use Rattle.meaning.specs.Step.{firstStamp}
 use Rattle.layout.specs.SoundWords.{lawful-sound, lawful-held}
 use Rattle.layout.specs.Words.{bookOf}
 use Rattle.moves.specs.Places.{noRecord, held-long, log-count}
-use borrow.Author.Needs.{needs}
 use Rattle.taking.proofs.Found.{tap-found, first-stamp}
 use Rattle.taking.proofs.Lines.{line-3, line-counted, line-logged, line-7, line-9, line-clear}
 use Rattle.taking.proofs.stop_tap.Statement.{statement}
