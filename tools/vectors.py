@@ -16,18 +16,23 @@ import sys
 from collections import Counter, namedtuple
 from functools import reduce
 from pathlib import Path
-from struct import pack, unpack
+from struct import calcsize, pack, unpack
 
 CRATE = Path(__file__).resolve().parent.parent / "crates" / "practice"
 SCREEN = CRATE.parent / "screen"
 
-# ---------------------------------------------------------------- stamps, taps, records
+# ---------------------------------------------------------------- the numbers of document 01, each once
 
-PARTS, LOG_MAX, KNOWN_MAX = 8, 256, 1024
+LEAST_SCREENS, MOST_SCREENS = 2, 8
+PARTS = 8  # of a stamp: never taken for the number of screens
+PROMPTS, LEAST_SHOWING, MOST_SHOWING = 64, 1, 65535
+LOG_MAX, KNOWN_MAX = 256, 1024
 COUNT_MAX = LOG_MAX
-TOP = 2**32 - 1
+BYTE_TOP, COUNT_TOP, TOP = 2**8 - 1, 2**16 - 1, 2**32 - 1
 ACCEPT, DECLINE = 1, 2
 UNASKED, ACCEPTED, DECLINED, CONTESTED = range(4)
+
+# ---------------------------------------------------------------- stamps, taps, records
 
 Tap = namedtuple("Tap", "front serial prompt showing answer")
 Record = namedtuple("Record", "origin number label tap")
@@ -52,40 +57,41 @@ def stamp_of(r):
 # ---------------------------------------------------------------- the wire
 
 GOSSIP, RECORD, TAP, QUESTION, TAKEN, ALREADY, VERDICT, WAIT, REFUSAL, GOSSIP_TAKEN, OPEN, SEND = range(1, 13)
-BODY = {GOSSIP: 36, RECORD: 46, TAP: 41, QUESTION: 33, TAKEN: 32, ALREADY: 32, VERDICT: 43, WAIT: 1, REFUSAL: 1, GOSSIP_TAKEN: 4, OPEN: 2, SEND: 0}
+STAMP, TAP_FIELDS, BITS = f"{PARTS}I", "BIBHB", "B"
+FIELDS = {GOSSIP: "BBH" + STAMP, RECORD: "BI" + STAMP + TAP_FIELDS, TAP: TAP_FIELDS + STAMP, QUESTION: "B" + STAMP, TAKEN: STAMP, ALREADY: STAMP,
+          VERDICT: "BHII" + STAMP, WAIT: BITS, REFUSAL: "B", GOSSIP_TAKEN: "HH", OPEN: "BB", SEND: ""}
+BODY = {kind: calcsize(">" + fields) for kind, fields in FIELDS.items()}
+HEAD_SIZE, RECORD_SIZE = 1 + BODY[GOSSIP], 1 + BODY[RECORD]
+COUNT_AT, LABEL_AT = 1 + calcsize(">BB"), 1 + calcsize(">BI")  # in a head, and in a record
+TAP_AT = LABEL_AT + calcsize(">" + STAMP)
 NAMES = {GOSSIP: "gossip", TAP: "tap", QUESTION: "question", OPEN: "open", None: "stop"}
 
 
-def message(kind, *fields):
-    body = b"".join(fields)
-    assert len(body) == BODY[kind]
-    return bytes([kind]) + body
+def message(kind, *values):
+    return bytes([kind]) + pack(">" + FIELDS[kind], *values)
 
 
-def wire_stamp(parts):
-    return pack(">8I", *parts)
-
-
-def wire_tap(tap):
-    return pack(">BIBHB", *tap)
+def values_of(kind, data):
+    """The values of the fields behind a byte of kind, which is not looked at."""
+    return unpack(">" + FIELDS[kind], data[1:])
 
 
 def wire_record(r):
-    return message(RECORD, pack(">BI", r.origin, r.number), wire_stamp(r.label), wire_tap(r.tap))
+    return message(RECORD, r.origin, r.number, *r.label, *r.tap)
 
 
 def wire_gossip(sender, n, m, records, count=None):
-    head = message(GOSSIP, pack(">BBH", sender, n, len(records) if count is None else count), wire_stamp(m))
+    head = message(GOSSIP, sender, n, len(records) if count is None else count, *m)
     return head + b"".join(map(wire_record, records))
 
 
 def read_record(data):
-    origin, number = unpack(">BI", data[1:6])
-    return Record(origin, number, unpack(">8I", data[6:38]), Tap(*unpack(">BIBHB", data[38:47])))
+    origin, number, *rest = values_of(RECORD, data)
+    return Record(origin, number, tuple(rest[:PARTS]), Tap(*rest[PARTS:]))
 
 
 def tap_in_range(tap):
-    return tap.prompt <= 63 and tap.showing >= 1 and tap.answer in (ACCEPT, DECLINE)
+    return tap.prompt < PROMPTS and tap.showing >= LEAST_SHOWING and tap.answer in (ACCEPT, DECLINE)
 
 
 def zero_past(parts, n):
@@ -100,34 +106,34 @@ def gossip_obeys(sender, n, m, lines):
     """The field rules of a gossip message, by the N of its own head."""
     records = [read_record(line) for line in lines]
     places = [(r.origin, r.number) for r in records]
-    return (2 <= n <= 8 and sender < n and zero_past(m, n) and all(line[0] == RECORD for line in lines)
+    return (LEAST_SCREENS <= n <= MOST_SCREENS and sender < n and zero_past(m, n) and all(line[0] == RECORD for line in lines)
             and all(record_obeys(r, n, m) for r in records) and all(a < b for a, b in zip(places, places[1:])))
 
 
 # ---------------------------------------------------------------- replies
 
 def taken(*parts):
-    return message(TAKEN, wire_stamp(stamp(*parts)))
+    return message(TAKEN, *stamp(*parts))
 
 
 def already(*parts):
-    return message(ALREADY, wire_stamp(stamp(*parts)))
+    return message(ALREADY, *stamp(*parts))
 
 
 def verdict(which, showing, accepts, declines, *value):
-    return message(VERDICT, pack(">BHII", which, showing, accepts, declines), wire_stamp(stamp(*value)))
+    return message(VERDICT, which, showing, accepts, declines, *stamp(*value))
 
 
 def wait(bits):
-    return message(WAIT, bytes([bits]))
+    return message(WAIT, bits)
 
 
 def no(number):
-    return message(REFUSAL, bytes([number]))
+    return message(REFUSAL, number)
 
 
 def heard(new, applied):
-    return message(GOSSIP_TAKEN, pack(">HH", new, applied))
+    return message(GOSSIP_TAKEN, new, applied)
 
 
 # ---------------------------------------------------------------- one screen
@@ -164,12 +170,14 @@ class Screen:
 
     def answer(self, data):
         if data[0] == TAP:
-            return self.tap(Tap(*unpack(">BIBHB", data[1:10])), unpack(">8I", data[10:]))
+            values = values_of(TAP, data)
+            return self.tap(Tap(*values[:-PARTS]), values[-PARTS:])
         if data[0] == QUESTION:
-            return self.question(data[1], unpack(">8I", data[2:]))
+            prompt, *label = values_of(QUESTION, data)
+            return self.question(prompt, tuple(label))
         if data[0] == GOSSIP:
-            head, size = 1 + BODY[GOSSIP], 1 + BODY[RECORD]
-            return self.gossip(data[1], data[2], unpack(">8I", data[5:head]), [data[at:at + size] for at in range(head, len(data), size)])
+            sender, n, _, *m = values_of(GOSSIP, data[:HEAD_SIZE])
+            return self.gossip(sender, n, tuple(m), [data[at:at + RECORD_SIZE] for at in range(HEAD_SIZE, len(data), RECORD_SIZE)])
         return wire_gossip(self.i, self.n, self.known, self.log())
 
     def tap(self, tap, label):
@@ -195,7 +203,7 @@ class Screen:
         return taken(*stamp_of(r))
 
     def question(self, prompt, label):
-        if prompt > 63 or not zero_past(label, self.n):
+        if prompt >= PROMPTS or not zero_past(label, self.n):
             return no(1)
         if label[self.i] > self.known[self.i]:
             return no(3)
@@ -248,9 +256,9 @@ def next_message(data, at, kinds):
         return None
     end = at + 1 + BODY[data[at]]
     if data[at] == GOSSIP:
-        count, records = int.from_bytes(data[at + 3:at + 5], "big"), end
-        end += count * (1 + BODY[RECORD])
-        if count > COUNT_MAX or any(kind != RECORD for kind in data[records:end:1 + BODY[RECORD]]):
+        count, records = int.from_bytes(data[at + COUNT_AT:at + COUNT_AT + 2], "big"), end
+        end += count * RECORD_SIZE
+        if count > COUNT_MAX or any(kind != RECORD for kind in data[records:end:RECORD_SIZE]):
             return None
     return data[at:end] if end <= len(data) else None
 
@@ -261,7 +269,7 @@ def run(data):
     if first is None:
         return [(None, no(1))]
     i, n = first[1:]
-    if not (2 <= n <= 8 and i < n):
+    if not (LEAST_SCREENS <= n <= MOST_SCREENS and i < n):
         return [(OPEN, no(2))]
     screen, at, replies = Screen(i, n), len(first), []
     while at < len(data):
@@ -294,15 +302,15 @@ def add(name, screen, *pairs):
 
 
 def start(i, n):
-    return message(OPEN, bytes([i, n]))
+    return message(OPEN, i, n)
 
 
 def press(tap, *label):
-    return message(TAP, wire_tap(tap), wire_stamp(stamp(*label)))
+    return message(TAP, *tap, *stamp(*label))
 
 
 def ask(prompt, *label):
-    return message(QUESTION, bytes([prompt]), wire_stamp(stamp(*label)))
+    return message(QUESTION, prompt, *stamp(*label))
 
 
 def gossip(sender, n, m, *records, count=None):
@@ -315,7 +323,7 @@ def record(origin, number, tap, *label):
 
 def with_kind(message, k, kind):
     """The gossip message with another kind at the place of its record k."""
-    at = 1 + BODY[GOSSIP] + k * (1 + BODY[RECORD])
+    at = HEAD_SIZE + k * RECORD_SIZE
     return message[:at] + bytes([kind]) + message[at + 1:]
 
 
@@ -339,6 +347,9 @@ def sent(screen, *messages):
 A = Tap(5, 1, 7, 1, ACCEPT)
 B = Tap(5, 2, 7, 1, DECLINE)
 G = Tap(6, 1, 7, 2, ACCEPT)
+NO_PROMPT = A._replace(prompt=PROMPTS)
+MOST = Tap(BYTE_TOP, TOP, PROMPTS - 1, MOST_SHOWING, DECLINE)
+LAST = MOST_SCREENS - 1  # the last screen of the largest house
 A_REC, B_REC, G_REC = record(0, 1, A), record(0, 2, B), record(2, 1, G, 1)
 AFTER_B = sent((0, 3), press(A), press(B))
 HEARD_B = (AFTER_B, heard(2, 2))
@@ -391,36 +402,46 @@ def case_n():
 
 
 def case_o_log():
-    taps = [(press(nth(x)), taken(x)) for x in range(1, 257)]
-    full = (press(nth(257)), no(9))
-    add("case-o-log-of-255-takes-one", (0, 3), *taps[:255], taps[255])
-    add("case-o-log-of-256-refuses", (0, 3), *taps, full, (press(nth(256)), already(256)), (ask(1, 256), verdict(ACCEPTED, 1, 256, 0, 256)))
-    add("case-o-room-freed-is-used-again", (0, 2), *taps, full, (gossip(1, 2, [256]), heard(0, 0)), (send, gossip(0, 2, [256])),
-        (press(nth(257)), taken(257)), (send, gossip(0, 2, [257], *many(0, 257, 257))))
+    taps = [(press(nth(x)), taken(x)) for x in range(1, LOG_MAX + 1)]
+    full = (press(nth(LOG_MAX + 1)), no(9))
+    add(f"case-o-log-of-{LOG_MAX - 1}-takes-one", (0, 3), *taps)
+    add(f"case-o-log-of-{LOG_MAX}-refuses", (0, 3), *taps, full, (press(nth(LOG_MAX)), already(LOG_MAX)),
+        (ask(1, LOG_MAX), verdict(ACCEPTED, 1, LOG_MAX, 0, LOG_MAX)))
+    add("case-o-room-freed-is-used-again", (0, 2), *taps, full, (gossip(1, 2, [LOG_MAX]), heard(0, 0)), (send, gossip(0, 2, [LOG_MAX])),
+        (press(nth(LOG_MAX + 1)), taken(LOG_MAX + 1)), (send, gossip(0, 2, [LOG_MAX + 1], *many(0, LOG_MAX + 1, LOG_MAX + 1))))
 
 
 def in_blocks(last):
-    """Gossip from 0 of 2 that brings its records 1 to last, at most 256 in a message, each applied and dropped at once."""
-    blocks = [many(0, first, min(first + 255, last)) for first in range(1, last + 1, 256)]
+    """Gossip from 0 of 2 that brings its records 1 to last, as many in a message as may be, each applied and dropped at once."""
+    blocks = [many(0, first, min(first + LOG_MAX - 1, last)) for first in range(1, last + 1, LOG_MAX)]
     return [(gossip(0, 2, [block[-1].number], *block), heard(len(block), len(block))) for block in blocks]
 
 
+def taps_with_room():
+    """As many taps on 0 of 2 as a book may know; whenever the log is full, 1 says that it has them."""
+    pairs = []
+    for x in range(1, KNOWN_MAX + 1):
+        pairs.append((press(nth(x)), taken(x)))
+        if x % LOG_MAX == 0 and x < KNOWN_MAX:
+            pairs.append((gossip(1, 2, [x]), heard(0, 0)))
+    return pairs
+
+
 def case_o_known():
-    spent = (press(B), no(7)), (press(A), already(1023, 1)), (press(nth(5)), already(1023, 1))
+    before, last_log = KNOWN_MAX - 1, KNOWN_MAX - LOG_MAX
+    spent = (press(B), no(7)), (press(A), already(before, 1)), (press(nth(5)), already(before, 1))
     before_spent = (press(B._replace(showing=0)), no(1)), (press(B, 0, 2), no(3)), (press(A, 0, 2), no(3))
-    add("case-o-known-1023-takes-and-1024-refuses", (1, 2), *in_blocks(1023), (press(A), taken(0, 1)), *spent, *before_spent,
-        (gossip(0, 2, [1024], *many(0, 1024, 1024)), no(7)), (ask(1, 1023, 1), verdict(ACCEPTED, 1, 1023, 0, 1023, 1)),
-        (send, gossip(1, 2, [1023, 1], record(1, 1, A))))
-    taps = [(press(nth(x)), taken(x)) for x in range(1, 1025)]
-    frees = [(gossip(1, 2, [x]), heard(0, 0)) for x in (256, 512, 768)]
-    add("case-o-1024-taps-of-one-screen", (0, 2), *taps[:256], frees[0], *taps[256:512], frees[1], *taps[512:768], frees[2], *taps[768:],
-        (press(A), no(7)), (press(nth(1)), already(1024)))
-    add("gossip-up-to-1024-known-and-not-beyond", (1, 2), *in_blocks(1024), (gossip(0, 2, [1025], *many(0, 1025, 1025)), no(7)),
-        (press(A), no(7)), (send, gossip(1, 2, [1024])))
-    waiting = gossip(0, 2, [1024], *many(0, 769, 1024, 0, TOP)), heard(256, 0)
-    add("tap-7-before-9", (1, 2), *in_blocks(768), waiting, (press(A), no(7)), (press(nth(1024)), already(1024, TOP)))
-    add("gossip-7-before-9", (1, 2), *in_blocks(768), (press(A), taken(0, 1)), (gossip(0, 2, [1024], *many(0, 769, 1024)), no(7)),
-        (gossip(0, 2, [769], *many(0, 769, 769)), heard(1, 1)))
+    add(f"case-o-known-{before}-takes-and-{KNOWN_MAX}-refuses", (1, 2), *in_blocks(before), (press(A), taken(0, 1)), *spent, *before_spent,
+        (gossip(0, 2, [KNOWN_MAX], *many(0, KNOWN_MAX, KNOWN_MAX)), no(7)), (ask(1, before, 1), verdict(ACCEPTED, 1, before, 0, before, 1)),
+        (send, gossip(1, 2, [before, 1], record(1, 1, A))))
+    add(f"case-o-{KNOWN_MAX}-taps-of-one-screen", (0, 2), *taps_with_room(), (press(A), no(7)), (press(nth(1)), already(KNOWN_MAX)))
+    add(f"gossip-up-to-{KNOWN_MAX}-known-and-not-beyond", (1, 2), *in_blocks(KNOWN_MAX),
+        (gossip(0, 2, [KNOWN_MAX + 1], *many(0, KNOWN_MAX + 1, KNOWN_MAX + 1)), no(7)), (press(A), no(7)), (send, gossip(1, 2, [KNOWN_MAX])))
+    waiting = gossip(0, 2, [KNOWN_MAX], *many(0, last_log + 1, KNOWN_MAX, 0, TOP)), heard(LOG_MAX, 0)
+    add("tap-7-before-9", (1, 2), *in_blocks(last_log), waiting, (press(A), no(7)), (press(nth(KNOWN_MAX)), already(KNOWN_MAX, TOP)))
+    add("gossip-7-before-9", (1, 2), *in_blocks(last_log), (press(A), taken(0, 1)),
+        (gossip(0, 2, [KNOWN_MAX], *many(0, last_log + 1, KNOWN_MAX)), no(7)),
+        (gossip(0, 2, [last_log + 1], *many(0, last_log + 1, last_log + 1)), heard(1, 1)))
 
 
 # ---------------------------------------------------------------- framing
@@ -430,54 +451,57 @@ def opening():
     raw("empty-input", b"", STOP)
     raw("end-inside-open-after-kind", start(0, 2)[:1], STOP)
     raw("end-inside-open-after-screen", start(0, 2)[:2], STOP)
-    for kind in 0, GOSSIP, RECORD, TAP, QUESTION, REFUSAL, SEND, 13, 255:
+    for kind in 0, GOSSIP, RECORD, TAP, QUESTION, REFUSAL, SEND, SEND + 1, BYTE_TOP:
         raw(f"kind-{kind}-before-open", bytes([kind]) + bytes(60) + start(0, 2) + rest, STOP)
-    for i, n in (0, 0), (0, 1), (1, 1), (0, 9), (2, 2), (8, 8), (7, 3), (255, 255):
+    for i, n in (0, 0), (0, 1), (1, 1), (0, MOST_SCREENS + 1), (2, 2), (MOST_SCREENS, MOST_SCREENS), (7, 3), (BYTE_TOP, BYTE_TOP):
         raw(f"open-{i}-of-{n}-refused", start(i, n) + rest, no(2))
     raw("refused-open-then-a-cut-message", start(2, 2) + press(A)[:5], no(2))
-    raw("refused-open-at-the-end", start(0, 9), no(2))
-    for i, n in (0, 2), (1, 2), (2, 3), (7, 8):
+    raw("refused-open-at-the-end", start(0, MOST_SCREENS + 1), no(2))
+    for i, n in (0, 2), (1, 2), (2, 3), (MOST_SCREENS - 1, MOST_SCREENS):
         add(f"open-{i}-of-{n}-sends-nothing-known", (i, n), (send, gossip(i, n, [])))
     add("open-and-a-silent-end", (0, 2))
 
 
 def unexpected_kinds():
     bodies = {RECORD: wire_record(A_REC), TAKEN: taken(1), ALREADY: already(1), VERDICT: verdict(ACCEPTED, 1, 1, 0, 1), WAIT: wait(1), REFUSAL: no(4),
-              GOSSIP_TAKEN: heard(1, 1), OPEN: start(0, 3), 0: bytes(1), 13: b"\x0d", 255: b"\xff"}
+              GOSSIP_TAKEN: heard(1, 1), OPEN: start(0, 3)}
+    bodies.update({kind: bytes([kind]) for kind in (0, SEND + 1, BYTE_TOP)})
     for kind, data in bodies.items():
         add(f"kind-{kind}-stops", (0, 3), TAKE_A, (data, STOP), (send, SILENCE))
     add("second-open-right-after-the-first", (0, 3), (start(0, 3), STOP), (send, SILENCE))
-    add("second-open-that-would-be-refused", (0, 3), (start(0, 9), STOP), (send, SILENCE))
+    add("second-open-that-would-be-refused", (0, 3), (start(0, MOST_SCREENS + 1), STOP), (send, SILENCE))
     add("kind-right-after-a-refusal-stops", (0, 3), (press(A, 1), no(3)), (bytes([0]), STOP), (press(A), SILENCE))
-    for byte in 0, 1, 3, 4, 11, 255:
+    for byte in 0, GOSSIP, TAP, QUESTION, OPEN, BYTE_TOP:
         add(f"trailing-byte-{byte}", (0, 2), TAKE_A, (send, gossip(0, 2, [1], A_REC)), (bytes([byte]), STOP))
-    add("trailing-byte-12-is-a-send", (0, 2), TAKE_A, (send, gossip(0, 2, [1], A_REC)))
+    add(f"trailing-byte-{SEND}-is-a-send", (0, 2), TAKE_A, (send, gossip(0, 2, [1], A_REC)))
 
 
 def cuts():
-    for size in 1, 2, 5, 9, 10, 11, 41:
+    for size in 1, 2, 5, 9, 10, 11, BODY[TAP]:
         add(f"tap-cut-after-{size}", (0, 3), TAKE_A, (press(B)[:size], STOP))
-    for size in 1, 2, 20, 33:
+    for size in 1, 2, 20, BODY[QUESTION]:
         add(f"question-cut-after-{size}", (0, 3), TAKE_A, (ask(7)[:size], STOP))
-    for size in 1, 2, 4, 5, 36:
+    for size in 1, 2, 4, 5, BODY[GOSSIP]:
         add(f"gossip-head-cut-after-{size}", (1, 3), (AFTER_B[:size], STOP))
-    for size in 37, 38, 43, 75, 83, 84, 130:
+    for size in HEAD_SIZE, *[HEAD_SIZE + place for place in (1, LABEL_AT, TAP_AT, BODY[RECORD], RECORD_SIZE)], len(AFTER_B) - 1:
         add(f"gossip-of-two-records-cut-after-{size}", (1, 3), (AFTER_B[:size], STOP))
-    add("tap-cut-though-its-prompt-is-64", (0, 3), (press(A._replace(prompt=64))[:41], STOP))
-    add("gossip-cut-though-its-head-breaks-a-rule", (1, 3), (gossip(0, 9, [1], A_REC)[:-1], STOP))
+    add(f"tap-cut-though-its-prompt-is-{PROMPTS}", (0, 3), (press(NO_PROMPT)[:-1], STOP))
+    add("gossip-cut-though-its-head-breaks-a-rule", (1, 3), (gossip(0, MOST_SCREENS + 1, [1], A_REC)[:-1], STOP))
     add("gossip-cut-though-it-is-old", (1, 3), HEARD_B, (AFTER_B[:-1], STOP))
     add("gossip-count-says-more-than-there-is", (1, 3), (gossip(0, 3, [2], A_REC, B_REC, count=3), STOP))
     add("gossip-count-says-less-than-there-is", (1, 3), (gossip(0, 3, [1], A_REC, B_REC, count=1), heard(1, 1) + STOP), (send, SILENCE))
 
 
 def counts():
-    add("count-256-of-256", (1, 3), (gossip(0, 3, [256], *many(0, 1, 256)), heard(256, 256)), (send, gossip(1, 3, [256], *many(0, 1, 256))))
-    add("count-257-with-all-its-records", (1, 3), (gossip(0, 3, [257], *many(0, 1, 257)), STOP), (send, SILENCE))
-    add("count-257-and-no-more", (1, 3), (gossip(0, 3, [257], count=257), STOP))
-    add("count-65535", (1, 3), (gossip(0, 3, [1], A_REC, count=65535), STOP), (send, SILENCE))
-    add("count-257-in-a-head-that-breaks-a-rule", (1, 3), (gossip(9, 9, [1], count=257), STOP), (send, SILENCE))
-    add("count-257-from-another-house", (1, 3), (gossip(0, 4, [257], *many(0, 1, 257)), STOP), (send, SILENCE))
-    add("count-256-and-the-last-record-cut", (1, 3), (gossip(0, 3, [256], *many(0, 1, 256))[:-1], STOP))
+    most, more = many(0, 1, LOG_MAX), many(0, 1, LOG_MAX + 1)
+    full, over = gossip(0, 3, [LOG_MAX], *most), f"count-{COUNT_MAX + 1}"
+    add(f"count-{COUNT_MAX}-of-{COUNT_MAX}", (1, 3), (full, heard(LOG_MAX, LOG_MAX)), (send, gossip(1, 3, [LOG_MAX], *most)))
+    add(f"{over}-with-all-its-records", (1, 3), (gossip(0, 3, [LOG_MAX + 1], *more), STOP), (send, SILENCE))
+    add(f"{over}-and-no-more", (1, 3), (gossip(0, 3, [LOG_MAX + 1], count=COUNT_MAX + 1), STOP))
+    add(f"count-{COUNT_TOP}", (1, 3), (gossip(0, 3, [1], A_REC, count=COUNT_TOP), STOP), (send, SILENCE))
+    add(f"{over}-in-a-head-that-breaks-a-rule", (1, 3), (gossip(9, MOST_SCREENS + 1, [1], count=COUNT_MAX + 1), STOP), (send, SILENCE))
+    add(f"{over}-from-another-house", (1, 3), (gossip(0, 4, [LOG_MAX + 1], *more), STOP), (send, SILENCE))
+    add(f"count-{COUNT_MAX}-and-the-last-record-cut", (1, 3), (full[:-1], STOP))
 
 
 def record_kinds():
@@ -487,10 +511,10 @@ def record_kinds():
     add("first-record-of-kind-0", (1, 3), (with_kind(AFTER_B, 0, 0), STOP), *good)
     add("first-record-of-kind-3", (1, 3), (press(A), taken(0, 1)), (first, STOP), *good)
     add("last-record-of-kind-3", (1, 3), (last, STOP), *good)
-    add("last-record-of-256-of-kind-3", (1, 3), (with_kind(gossip(0, 3, [256], *many(0, 1, 256)), 255, TAP), STOP), *good)
+    add(f"last-record-of-{COUNT_MAX}-of-kind-3", (1, 3), (with_kind(gossip(0, 3, [LOG_MAX], *many(0, 1, LOG_MAX)), COUNT_MAX - 1, TAP), STOP), *good)
     add("record-of-kind-3-in-old-gossip", (1, 3), HEARD_B, (last, STOP), *good)
-    add("record-of-kind-3-behind-a-head-that-breaks-a-rule", (1, 3), (with_kind(gossip(0, 9, [1], A_REC), 0, TAP), STOP), *good)
-    for size in 38, 130:
+    add("record-of-kind-3-behind-a-head-that-breaks-a-rule", (1, 3), (with_kind(gossip(0, MOST_SCREENS + 1, [1], A_REC), 0, TAP), STOP), *good)
+    for size in HEAD_SIZE + 1, len(first) - 1:
         add(f"record-of-kind-3-and-cut-after-{size}", (1, 3), (first[:size], STOP))
 
 
@@ -498,52 +522,53 @@ def record_kinds():
 
 def tap_fields():
     goes_on = (press(A), taken(1))
-    damaged = {"prompt-64": A._replace(prompt=64), "showing-0": A._replace(showing=0), "answer-0": A._replace(answer=0),
+    damaged = {f"prompt-{PROMPTS}": NO_PROMPT, "showing-0": A._replace(showing=0), "answer-0": A._replace(answer=0),
                "answer-3": A._replace(answer=3)}
     for name, tap in damaged.items():
         add(f"tap-{name}", (0, 3), (press(tap), no(1)), goes_on)
     add("tap-label-part-past-n-is-2", (0, 2), (press(A, 0, 0, 1), no(1)), goes_on)
     add("tap-label-part-past-n-is-3", (0, 3), (press(A, 0, 0, 0, 1), no(1)), goes_on)
-    add("tap-last-label-part-past-n-is-7", (0, 7), (press(A, *[0] * 7, 1), no(1)), goes_on)
-    add("tap-last-label-part-when-n-is-8", (0, 8), (press(A, *[0] * 7, TOP), taken(1, *[0] * 6, TOP)))
+    add(f"tap-last-label-part-past-n-is-{LAST}", (0, LAST), (press(A, *[0] * LAST, 1), no(1)), goes_on)
+    add(f"tap-last-label-part-when-n-is-{MOST_SCREENS}", (0, MOST_SCREENS), (press(A, *[0] * LAST, TOP), taken(1, *[0] * (LAST - 1), TOP)))
     add("tap-fields-at-their-least", (0, 3), (press(Tap(0, 0, 0, 1, ACCEPT)), taken(1)), (ask(0, 1), verdict(ACCEPTED, 1, 1, 0, 1)))
-    add("tap-fields-at-their-most", (0, 3), (press(Tap(255, TOP, 63, 65535, DECLINE)), taken(1)), (ask(63, 1), verdict(DECLINED, 65535, 0, 1, 1)),
-        (send, gossip(0, 3, [1], record(0, 1, Tap(255, TOP, 63, 65535, DECLINE)))))
+    add("tap-fields-at-their-most", (0, 3), (press(MOST), taken(1)), (ask(PROMPTS - 1, 1), verdict(DECLINED, MOST_SHOWING, 0, 1, 1)),
+        (send, gossip(0, 3, [1], record(0, 1, MOST))))
     add("tap-label-parts-at-their-most", (1, 3), (press(A, TOP, 0, TOP), taken(TOP, 1, TOP)), (ask(7, TOP, 1, TOP), wait(0x07)))
 
 
 def question_fields():
     goes_on = (ask(7), verdict(UNASKED, 0, 0, 0))
-    add("question-prompt-64", (0, 3), (ask(64), no(1)), goes_on)
-    add("question-prompts-0-and-63", (0, 3), (ask(0), verdict(UNASKED, 0, 0, 0)), (ask(63), verdict(UNASKED, 0, 0, 0)), goes_on)
+    add(f"question-prompt-{PROMPTS}", (0, 3), (ask(PROMPTS), no(1)), goes_on)
+    add(f"question-prompts-0-and-{PROMPTS - 1}", (0, 3), (ask(0), verdict(UNASKED, 0, 0, 0)), (ask(PROMPTS - 1), verdict(UNASKED, 0, 0, 0)), goes_on)
     add("question-label-part-past-n-is-2", (0, 2), (ask(7, 0, 0, 1), no(1)), goes_on)
-    add("question-last-label-part-past-n-is-7", (0, 7), (ask(7, *[0] * 7, 1), no(1)), goes_on)
-    add("question-every-lacking-bit-but-ours", (3, 8), (ask(7, 1, TOP, 1, 0, 1, 1, 1, 1), wait(0xF7)))
+    add(f"question-last-label-part-past-n-is-{LAST}", (0, LAST), (ask(7, *[0] * LAST, 1), no(1)), goes_on)
+    add("question-every-lacking-bit-but-ours", (3, MOST_SCREENS), (ask(7, 1, TOP, 1, 0, *[1] * (LAST - 3)), wait(2**MOST_SCREENS - 1 - 2**3)))
     add("question-3", (0, 3), (ask(7, 1), no(3)), TAKE_A, (ask(7, 1), verdict(ACCEPTED, 1, 1, 0, 1)), (ask(7, 2), no(3)))
-    add("question-1-before-3", (0, 3), (ask(64, 1), no(1)), (ask(7, 1, 0, 0, 1), no(1)), goes_on)
+    add("question-1-before-3", (0, 3), (ask(PROMPTS, 1), no(1)), (ask(7, 1, 0, 0, 1), no(1)), goes_on)
     add("question-3-before-wait", (0, 3), (ask(7, 1, 1, 1), no(3)), (ask(7, 0, 1, 1), wait(0x06)))
 
 
 def gossip_head_fields():
     good = (gossip(0, 3, [1], A_REC), heard(1, 1))
-    damaged = {"n-0": gossip(0, 0, [1], A_REC), "n-1": gossip(0, 1, [1], A_REC), "n-9": gossip(0, 9, [1], A_REC), "n-255": gossip(0, 255, [1], A_REC),
-               "sender-is-n": gossip(3, 3, [1], A_REC), "sender-255": gossip(255, 3, [1], A_REC),
-               "stamp-part-past-n": gossip(0, 3, [1, 0, 0, 1], A_REC), "last-stamp-part-past-n": gossip(0, 3, [1, 0, 0, 0, 0, 0, 0, 1], A_REC)}
+    damaged = {f"n-{n}": gossip(0, n, [1], A_REC) for n in (0, LEAST_SCREENS - 1, MOST_SCREENS + 1, BYTE_TOP)}
+    damaged |= {"sender-is-n": gossip(3, 3, [1], A_REC), f"sender-{BYTE_TOP}": gossip(BYTE_TOP, 3, [1], A_REC),
+                "stamp-part-past-n": gossip(0, 3, [1, 0, 0, 1], A_REC), "last-stamp-part-past-n": gossip(0, 3, [1, *[0] * (LAST - 1), 1], A_REC)}
     for name, data in damaged.items():
         add(f"gossip-{name}", (1, 3), (data, no(1)), good)
     add("gossip-broken-head-passes-over-two-records", (1, 3), (gossip(3, 3, [2], A_REC, B_REC), no(1)), good)
-    add("gossip-broken-head-without-records", (1, 3), (gossip(0, 9, [1]), no(1)), good)
+    add("gossip-broken-head-without-records", (1, 3), (gossip(0, MOST_SCREENS + 1, [1]), no(1)), good)
     inside = record(0, 1, Tap(1, 0x03030303, 4, 0x0C0C, 1), 0, 0x0C0C0C0C, 0x0B000303)
     add("gossip-passed-over-holds-bytes-like-kinds", (1, 3), (gossip(1, 3, [1], inside), no(2)), good)
-    add("gossip-last-screen-of-eight", (0, 8), (gossip(7, 8, [0] * 7 + [1], record(7, 1, A)), heard(1, 1)),
-        (ask(7, *[0] * 7, 1), verdict(ACCEPTED, 1, 1, 0, *[0] * 7, 1)))
+    add("gossip-last-screen-of-eight", (0, MOST_SCREENS), (gossip(LAST, MOST_SCREENS, [*[0] * LAST, 1], record(LAST, 1, A)), heard(1, 1)),
+        (ask(7, *[0] * LAST, 1), verdict(ACCEPTED, 1, 1, 0, *[0] * LAST, 1)))
 
 
 def record_fields():
-    damaged = {"origin-is-n": record(3, 1, A), "origin-255": record(255, 1, A), "number-0": record(0, 0, A), "number-above-stamp": record(0, 2, A),
+    damaged = {"origin-is-n": record(3, 1, A), f"origin-{BYTE_TOP}": record(BYTE_TOP, 1, A), "number-0": record(0, 0, A),
+               "number-above-stamp": record(0, 2, A),
                "number-of-an-origin-the-stamp-lacks": record(2, 1, A), "own-label-part-equals-number": record(0, 1, A, 1),
                "own-label-part-above-number": record(0, 1, A, TOP), "label-part-past-n": record(0, 1, A, 0, 0, 0, 1),
-               "prompt-64": record(0, 1, A._replace(prompt=64)), "showing-0": record(0, 1, A._replace(showing=0)),
+               f"prompt-{PROMPTS}": record(0, 1, NO_PROMPT), "showing-0": record(0, 1, A._replace(showing=0)),
                "answer-0": record(0, 1, A._replace(answer=0)), "answer-3": record(0, 1, A._replace(answer=3))}
     good = (gossip(0, 3, [1], A_REC), heard(1, 1))
     for name, bad in damaged.items():
@@ -561,7 +586,8 @@ def record_fields():
 
 # ---------------------------------------------------------------- refusals and their order
 
-FULL = (gossip(0, 3, [256], *many(0, 1, 256)), heard(256, 256))
+FULL = (gossip(0, 3, [LOG_MAX], *many(0, 1, LOG_MAX)), heard(LOG_MAX, LOG_MAX))
+NEXT = many(0, LOG_MAX + 1, LOG_MAX + 1)
 
 
 def tap_order():
@@ -570,22 +596,23 @@ def tap_order():
     add("tap-1-before-3", (0, 3), (press(bad, 1), no(1)), (press(A, 1, 0, 0, 1), no(1)), (press(A, 1), no(3)))
     add("tap-1-before-already", (0, 3), TAKE_A, (press(A, 0, 0, 0, 1), no(1)), (press(A), already(1)))
     add("tap-3-before-already", (0, 3), TAKE_A, (press(A, 2), no(3)), (press(A, 1), already(1)))
-    add("tap-on-a-full-log-1-and-3-and-already-before-9", (1, 3), FULL, (press(bad), no(1)), (press(A, 0, 1), no(3)), (press(nth(7)), already(256)),
-        (press(A), no(9)))
+    add("tap-on-a-full-log-1-and-3-and-already-before-9", (1, 3), FULL, (press(bad), no(1)), (press(A, 0, 1), no(3)),
+        (press(nth(7)), already(LOG_MAX)), (press(A), no(9)))
 
 
 def gossip_order_at_two():
     """Another house, or ourselves as the sender: nothing after 2 is looked at, and only 1 comes before it."""
-    add("gossip-2-another-n", (1, 3), (gossip(0, 4, [1], A_REC), no(2)), (gossip(0, 2, [1], A_REC), no(2)), (gossip(7, 8, [0, 0, 0, 1]), no(2)))
+    add("gossip-2-another-n", (1, 3), (gossip(0, 4, [1], A_REC), no(2)), (gossip(0, 2, [1], A_REC), no(2)),
+        (gossip(LAST, MOST_SCREENS, [0, 0, 0, 1]), no(2)))
     add("gossip-2-from-ourselves", (1, 3), (gossip(1, 3, [1], A_REC), no(2)), (gossip(1, 3, []), no(2)))
     add("gossip-1-before-2", (1, 3), (gossip(0, 4, [1, 0, 0, 0, 1], A_REC), no(1)), (gossip(1, 3, [1], B_REC), no(1)), (gossip(5, 4, []), no(1)),
         (gossip(0, 2, [0, 0, 1]), no(1)))
     add("gossip-2-before-4", (1, 3), HEARD_B, (gossip(1, 3, [2]), no(2)), (gossip(0, 4, [2]), no(2)))
     add("gossip-2-before-5", (1, 3), HEARD_B, (gossip(1, 3, [1, 0, 1], G_REC), no(2)), (gossip(0, 4, [1, 0, 1], G_REC), no(2)))
     add("gossip-2-before-6", (1, 3), (gossip(1, 3, [0, 1]), no(2)), (gossip(0, 2, [0, 1]), no(2)))
-    add("gossip-2-before-7", (1, 3), (gossip(1, 3, [TOP, 0, TOP]), no(2)), (gossip(0, 8, [TOP] * 8), no(2)))
+    add("gossip-2-before-7", (1, 3), (gossip(1, 3, [TOP, 0, TOP]), no(2)), (gossip(0, MOST_SCREENS, [TOP] * MOST_SCREENS), no(2)))
     add("gossip-2-before-8", (1, 3), (gossip(1, 3, [2], B_REC), no(2)), (gossip(0, 4, [2], B_REC), no(2)))
-    add("gossip-2-before-9", (1, 3), FULL, (gossip(1, 3, [257], *many(0, 257, 257)), no(2)), (gossip(0, 4, [257], *many(0, 257, 257)), no(2)))
+    add("gossip-2-before-9", (1, 3), FULL, (gossip(1, 3, [LOG_MAX + 1], *NEXT), no(2)), (gossip(0, 4, [LOG_MAX + 1], *NEXT), no(2)))
 
 
 def gossip_order_at_four_and_five():
@@ -599,7 +626,7 @@ def gossip_order_at_four_and_five():
     add("gossip-5-before-6", (1, 3), HEARD_B, (gossip(0, 3, [1, 1]), no(5)))
     add("gossip-5-before-7", (1, 3), HEARD_B, (gossip(0, 3, [1, 0, TOP]), no(5)))
     add("gossip-5-before-8", (1, 3), HEARD_B, (gossip(0, 3, [1, 0, 1]), no(5)))
-    add("gossip-5-before-9", (1, 3), FULL, (gossip(0, 3, [255, 0, 1], G_REC), no(5)))
+    add("gossip-5-before-9", (1, 3), FULL, (gossip(0, 3, [LOG_MAX - 1, 0, 1], G_REC), no(5)))
 
 
 def gossip_order_at_six_and_seven():
@@ -608,13 +635,14 @@ def gossip_order_at_six_and_seven():
     add("gossip-6-before-7", (1, 3), (gossip(0, 3, [TOP, 1]), no(6)), (gossip(0, 3, [0, TOP]), no(6)))
     add("gossip-6-before-8", (1, 3), (gossip(0, 3, [2, 1], B_REC), no(6)))
     add("gossip-6-with-the-record-at-hand", (1, 3), (gossip(0, 3, [0, 1], record(1, 1, A)), no(6)))
-    add("gossip-6-before-9", (1, 3), FULL, (gossip(0, 3, [257, 1], *many(0, 257, 257)), no(6)))
-    add("gossip-1-before-7", (1, 3), (gossip(0, 3, [1025], record(0, 0, A)), no(1)))
-    add("gossip-7-before-8", (1, 3), (gossip(0, 3, [1025]), no(7)), (gossip(0, 3, [TOP]), no(7)), (gossip(0, 3, [1024]), no(8)))
-    add("gossip-7-sum-past-32-bits", (7, 8), (gossip(0, 8, [2**31, 2**31, 1], A_REC), no(7)), (gossip(0, 8, [TOP] * 7), no(7)),
-        (gossip(0, 8, [TOP, 1]), no(7)), (gossip(0, 8, [TOP, 2], A_REC), no(7)))
-    add("gossip-7-counts-what-only-we-know", (1, 3), FULL, (gossip(2, 3, [0, 0, 769]), no(7)), (gossip(2, 3, [0, 0, 768]), no(8)))
-    add("gossip-7-before-8-and-9", (1, 3), FULL, (gossip(0, 3, [1025], *many(0, 257, 257)), no(7)))
+    add("gossip-6-before-9", (1, 3), FULL, (gossip(0, 3, [LOG_MAX + 1, 1], *NEXT), no(6)))
+    add("gossip-1-before-7", (1, 3), (gossip(0, 3, [KNOWN_MAX + 1], record(0, 0, A)), no(1)))
+    add("gossip-7-before-8", (1, 3), (gossip(0, 3, [KNOWN_MAX + 1]), no(7)), (gossip(0, 3, [TOP]), no(7)), (gossip(0, 3, [KNOWN_MAX]), no(8)))
+    sums = gossip(0, MOST_SCREENS, [2**31, 2**31, 1], A_REC), gossip(0, MOST_SCREENS, [TOP] * LAST), gossip(0, MOST_SCREENS, [TOP, 1])
+    add("gossip-7-sum-past-32-bits", (LAST, MOST_SCREENS), *[(told, no(7)) for told in sums], (gossip(0, MOST_SCREENS, [TOP, 2], A_REC), no(7)))
+    add("gossip-7-counts-what-only-we-know", (1, 3), FULL, (gossip(2, 3, [0, 0, KNOWN_MAX - LOG_MAX + 1]), no(7)),
+        (gossip(2, 3, [0, 0, KNOWN_MAX - LOG_MAX]), no(8)))
+    add("gossip-7-before-8-and-9", (1, 3), FULL, (gossip(0, 3, [KNOWN_MAX + 1], *NEXT), no(7)))
 
 
 def gossip_order_at_eight_and_nine():
@@ -624,15 +652,17 @@ def gossip_order_at_eight_and_nine():
     add("gossip-8-of-an-origin-not-the-sender", (1, 3), (gossip(0, 3, [1, 0, 1], A_REC), no(8)), (gossip(0, 3, [1, 0, 1], A_REC, G_REC), heard(2, 2)))
     add("gossip-known-records-need-not-be-there", (1, 3), HEARD_B, (gossip(0, 3, [3], *many(0, 3, 3)), heard(1, 1)))
     add("gossip-1-before-8", (1, 3), (gossip(0, 3, [3], three[1], three[0]), no(1)))
-    add("gossip-8-before-9", (1, 3), FULL, (gossip(0, 3, [258], *many(0, 258, 258)), no(8)))
-    add("gossip-1-before-9", (1, 3), FULL, (gossip(0, 3, [257], record(0, 257, A, 257)), no(1)))
-    add("gossip-9", (1, 3), (press(A), taken(0, 1)), (gossip(0, 3, [256], *many(0, 1, 256)), no(9)), (gossip(0, 3, [255], *many(0, 1, 255)),
-        heard(255, 255)), (gossip(0, 3, [256], *many(0, 256, 256)), no(9)), (press(B), no(9)), (press(A), already(255, 1)))
-    brings_one = gossip(2, 3, [256, 0, 1], record(2, 1, A))
-    add("gossip-9-looks-at-the-log-before-the-step", (1, 3), FULL, (brings_one, no(9)), (gossip(2, 3, [256]), heard(0, 0)),
-        (brings_one, heard(1, 1)), (send, gossip(1, 3, [256, 0, 1], record(2, 1, A))))
-    add("gossip-9-counts-new-records-only", (1, 3), (gossip(0, 3, [200], *many(0, 1, 200)), heard(200, 200)),
-        (gossip(0, 3, [256], *many(0, 1, 256)), heard(56, 56)), (press(A), no(9)))
+    add("gossip-8-before-9", (1, 3), FULL, (gossip(0, 3, [LOG_MAX + 2], *many(0, LOG_MAX + 2, LOG_MAX + 2)), no(8)))
+    add("gossip-1-before-9", (1, 3), FULL, (gossip(0, 3, [LOG_MAX + 1], record(0, LOG_MAX + 1, A, LOG_MAX + 1)), no(1)))
+    room, all_of_them = LOG_MAX - 1, gossip(0, 3, [LOG_MAX], *many(0, 1, LOG_MAX))
+    add("gossip-9", (1, 3), (press(A), taken(0, 1)), (all_of_them, no(9)), (gossip(0, 3, [room], *many(0, 1, room)), heard(room, room)),
+        (gossip(0, 3, [LOG_MAX], *many(0, LOG_MAX, LOG_MAX)), no(9)), (press(B), no(9)), (press(A), already(room, 1)))
+    brings_one = gossip(2, 3, [LOG_MAX, 0, 1], record(2, 1, A))
+    add("gossip-9-looks-at-the-log-before-the-step", (1, 3), FULL, (brings_one, no(9)), (gossip(2, 3, [LOG_MAX]), heard(0, 0)),
+        (brings_one, heard(1, 1)), (send, gossip(1, 3, [LOG_MAX, 0, 1], record(2, 1, A))))
+    few = LOG_MAX - 56
+    add("gossip-9-counts-new-records-only", (1, 3), (gossip(0, 3, [few], *many(0, 1, few)), heard(few, few)), (all_of_them, heard(56, 56)),
+        (press(A), no(9)))
 
 
 # ---------------------------------------------------------------- what the answers mean
@@ -703,7 +733,7 @@ def screens_run():
     pairs = [
         (gossip(1, 2, [1, 1], A_REC, decline, later), no(1)), (told, heard(2, 2)), (told, no(4)),
         (ask(7, 1, 2), verdict(ACCEPTED, 2, 1, 0, 1, 2)), (ask(7, 1, 3), wait(0x02)), (press(A), already(1, 2)),
-        (press(nth(1), 2), no(3)), (press(Tap(5, 3, 64, 1, ACCEPT)), no(1)), (gossip(0, 2, [1, 3]), no(2)),
+        (press(nth(1), 2), no(3)), (press(Tap(5, 3, PROMPTS, 1, ACCEPT)), no(1)), (gossip(0, 2, [1, 3]), no(2)),
         (gossip(1, 2, [1, 4], record(1, 4, nth(4))), no(8)), (gossip(1, 2, [2, 2]), no(6)), (gossip(1, 2, [1, KNOWN_MAX]), no(7)),
         (press(B, 1, 2), taken(2, 2)), (send, gossip(0, 2, [2, 2], record(0, 2, B, 1, 2))), (ask(7), verdict(ACCEPTED, 2, 1, 0, 2, 2))]
     raw("screen", whole + b"".join(asked for asked, _ in pairs) + wire_record(A_REC) + send,
@@ -844,13 +874,13 @@ def all_vectors():
         part()
     mixed_walk(2, 60, 1)
     mixed_walk(3, 90, 2)
-    mixed_walk(8, 160, 3)
+    mixed_walk(MOST_SCREENS, 160, 3)
 
 
 def data_file():
     out = b""
     for name, (data, output) in vectors.items():
-        assert 0 < len(name) < 256 and len(data) <= 60_000 and len(output) <= 60_000, name
+        assert 0 < len(name) <= BYTE_TOP and len(data) <= 60_000 and len(output) <= 60_000, name
         out += bytes([len(name)]) + name.encode("ascii") + pack(">I", len(data)) + data + pack(">I", len(output)) + output
     assert len(out) < 900_000 and 80 <= len(vectors) <= 250
     return out + bytes(1)

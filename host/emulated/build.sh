@@ -1,10 +1,11 @@
 #!/bin/sh
-# usage: build.sh ARCHIVE PROGRAM FOLDER
-# For a machine that is not x86-64. `rt` writes code for x86-64 alone; this writes FOLDER/libconsent.a, a library for the
-# machine at hand that hands each call to ARCHIVE in the toolchain's emulator, and FOLDER/screen, which runs PROGRAM in it.
+# usage: build.sh FOLDER ARCHIVE [PROGRAM]
+# For a machine that is not x86-64. `rt` writes code for x86-64 alone; this writes FOLDER/libconsent.a, a library for
+# the machine at hand that hands each call to ARCHIVE in the toolchain's emulator, and FOLDER/screen, which runs PROGRAM
+# in it.
 set -eu
 
-archive=$1 program=$(readlink -f "$2") folder=$3
+folder=$1 archive=$2 program=${3:+$(readlink -f "$3")}
 here=$(cd "$(dirname "$0")" && pwd -P)
 include=$here/../../include
 home=${RATTLE_HOME:-$(dirname "$(dirname "$(readlink -f "$(command -v rt)")")")}
@@ -27,8 +28,9 @@ gcc -std=c11 -O2 -fPIC -Wall -Wextra -Werror -I"$include" \
 rm -f "$folder/libconsent.a"
 ar rcs "$folder/libconsent.a" "$folder/forward.o"
 
-cat >"$folder/screen" <<EOF
+[ -n "$program" ] || exit 0
+cat >"$folder/screen" <<END
 #!/bin/sh
 exec "$tools/bin/qemu-x86_64" "$tools/lib/ld-linux-x86-64.so.2" --library-path "$tools/lib" "$program"
-EOF
+END
 chmod +x "$folder/screen"

@@ -7,16 +7,16 @@ use lib.ListN.{length}
 use Rattle.stamp.specs.Parts.{partsAt, listOf}
 use Rattle.wire.specs.Kinds.{tapKind, tapAt}
 use Rattle.wire.specs.Read.{lineOf}
-use Rattle.gossip.specs.Message.{messageOf}
+use Rattle.message.specs.Message.{messageOf}
 use Rattle.meaning.specs.Step.{newOnes}
-use Rattle.layout.specs.Words.{bookOf}
-use Rattle.answers.specs.Lent.{tapStop, gossipStop}
-use Rattle.answers.specs.Spoken.{spoken}
-use Rattle.taking.specs.declared.TapStop.{TapStop}
-use Rattle.taking.specs.declared.TapStop.the-variants as tap
-use Rattle.gossiping.specs.Heard.{Heard}
-use Rattle.gossiping.specs.declared.GossipStop.{GossipStop}
-use Rattle.gossiping.specs.declared.GossipStop.the-variants as gossip
+use Rattle.lent.specs.Words.{bookOf}
+use Rattle.promise.specs.Lent.{tapStop, gossipStop}
+use Rattle.promise.specs.Spoken.{spoken}
+use Rattle.tap_step.specs.declared.TapStop.{TapStop}
+use Rattle.tap_step.specs.declared.TapStop.the-variants as tap
+use Rattle.gossip_step.specs.Heard.{Heard}
+use Rattle.gossip_step.specs.declared.GossipStop.{GossipStop}
+use Rattle.gossip_step.specs.declared.GossipStop.the-variants as gossip
 
 -- a tap's stop; with none, the tap and the label that the bytes hold
 abbrev pub TapStopOn : List ℕ → List ℕ → TapStop → Type 0
@@ -29,4 +29,5 @@ TapStopOn ws bytes (tap.Clear t l) =
 abbrev pub GossipStopOn : List ℕ → List ℕ → GossipStop → Type 0
 GossipStopOn ws bytes (gossip.Stopped r) = gossipStop ws bytes ≡ some (spoken r)
 GossipStopOn ws bytes (gossip.Clear sender screens count stamp new) =
-    (gossipStop ws bytes ≡ none) × Heard bytes sender screens count (listOf stamp) × (new ≡ length (newOnes (bookOf ws) (messageOf bytes)))
+    (gossipStop ws bytes ≡ none) × Heard bytes sender screens count (listOf stamp)
+    × (new ≡ length (newOnes (bookOf ws) (messageOf bytes)))

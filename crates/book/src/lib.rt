@@ -1,26 +1,26 @@
 // The book on a lent slice: open, tap, question, send and gossip. Every entry judges its own arguments.
-use answers::Reply;
-use answers::UNSOUND;
-use asking::ask_book;
-use gossip::read_gossip;
-use gossiping::GossipStop;
-use gossiping::stop_gossip;
-use gossiping::take_gossip;
-use layout::SCREENS;
-use opening::Opening;
-use opening::open_book;
+use ask_step::ask_book;
+use gossip_step::GossipStop;
+use gossip_step::stop_gossip;
+use gossip_step::take_gossip;
+use lent::screens_of;
+use message::read_gossip;
+use open_step::Opening;
+use open_step::open_book;
+use promise::Reply;
+use promise::UNSOUND;
 use requests::read_question;
 use requests::read_tap;
-use sending::send_book;
+use send_step::send_book;
 use soundness::sound;
-use taking::TapStop;
-use taking::stop_tap;
-use taking::take_tap;
+use tap_step::TapStop;
+use tap_step::stop_tap;
+use tap_step::take_tap;
 use wire::BAD;
 use wire::Said;
 use wire::Written;
-ghost use Rattle.answers.specs.Lent.{Promise, tapOn, questionOn, gossipOn, sendOn, openOn};
-ghost use Rattle.opening.specs.Opening.{Opens};
+ghost use Rattle.promise.specs.Lent.{Promise, tapOn, questionOn, gossipOn, sendOn, openOn};
+ghost use Rattle.open_step.specs.Opening.{Opens};
 ghost use Rattle.wire.specs.Write.{Meets};
 ghost use Rattle.book.specs.Stop.{TapStopOn, GossipStopOn};
 
@@ -38,7 +38,7 @@ pub fn tap_stop(b: &[u64], msg: &[u8]) -> TapStop
     if !sound(b) {
         return TapStop::Stopped(Reply::Refused(UNSOUND));
     }
-    let n = b[SCREENS] as usize;
+    let n = screens_of(b) as usize;
     let said = read_tap(msg, n);
     let Said::Tap { tap, label } = said else {
         return TapStop::Stopped(Reply::Refused(BAD));
@@ -63,7 +63,7 @@ pub fn question(b: &[u64], msg: &[u8]) -> Reply
     if !sound(b) {
         return Reply::Refused(UNSOUND);
     }
-    let n = b[SCREENS] as usize;
+    let n = screens_of(b) as usize;
     let said = read_question(msg, n);
     let Said::Question { prompt, label } = said else {
         return Reply::Refused(BAD);

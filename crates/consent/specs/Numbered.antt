@@ -6,7 +6,7 @@ use mathlib.Core.List.{List}
 use mathlib.Core.Option.{Option, none, some}
 use lib.Dec.{eqb}
 use Rattle.meaning.specs.Reply.{Reply, refusal}
-use Rattle.answers.specs.Lent.{Opened}
+use Rattle.promise.specs.Lent.{Opened}
 
 -- 0 says that the book is open, any other number is the refusal's
 abbrev pub refusedAs : ℕ → Option Reply

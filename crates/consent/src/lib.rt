@@ -1,17 +1,18 @@
-// What a host in C, C++ or Rust links (include/consent.h): the proved operations under plain names. None has a requires.
-use answering::answer;
-use answering::reply_room;
+// What a host in C, C++ or Rust links (include/consent.h): the proved operations under plain names. None has a
+// requires.
+use answer::answer;
+use answer::reply_room;
 use book::open;
-use layout::BOOK;
-use opening::Opening;
+use lent::BOOK;
+use open_step::Opening;
 use permission::permission;
 use replies::reply_kind;
 ghost use mathlib.Core.Path.{_≡_};
 ghost use Rattle.replies.specs.Which.{replyKind};
-ghost use Rattle.layout.specs.Words.{bookLong};
+ghost use Rattle.lent.specs.Words.{bookLong};
 ghost use Rattle.meaning.specs.Reply.{permits};
-ghost use Rattle.answers.specs.Lent.{questionOn, openOn};
-ghost use Rattle.answering.specs.Answer.{answerOn, Answers, roomFor};
+ghost use Rattle.promise.specs.Lent.{questionOn, openOn};
+ghost use Rattle.answer.specs.Answer.{answerOn, Answers, roomFor};
 ghost use Rattle.consent.specs.Numbered.{OpensAs};
 
 // No refusal has this number.
@@ -40,7 +41,8 @@ pub extern "C" fn consent_open(book: &mut [u64], screen: u64, screens: u64) -> u
 // The reply to one whole message of kind 1, 3, 4 or 12, and how long it is; 0 where the lent reply is too short for it.
 #[no_mangle]
 pub extern "C" fn consent_answer(book: &mut [u64], message: &[u8], reply: &mut [u8]) -> usize
-    ensures { λ r. ⌜ Answers (answerOn (now (book .entry)) (now (message .entry)) (now (reply .entry))) r (now (book .exit)) (now (reply .exit)) ⌝ }
+    ensures { λ r. ⌜ Answers (answerOn (now (book .entry)) (now (message .entry)) (now (reply .entry))) r
+        (now (book .exit)) (now (reply .exit)) ⌝ }
 {
     answer(book, message, reply)
 }

@@ -6,12 +6,13 @@ use mathlib.Core.Bool.{Bool, true, false, cond}
 use mathlib.Core.List.{List, [], _∷_}
 use borrow.Author.Tests.{eq-eqb, ne-eqb, lt-ltb, le-ltb}
 use lib.ListN.{length, getD}
-use Rattle.ledger.specs.Limits.{logRoom}
+use Rattle.limits.specs.Limits.{logRoom}
 use Rattle.wire.specs.Kinds.{bodyOf, headLong, recordLong}
-use Rattle.frames.specs.Frame.{expected, countIn, countEnd, gossipFrame, bodyFrame, kindFrame, frameOf}
+use Rattle.frames.specs.Frame.{expected, countRead, countEnd, gossipFrame, bodyFrame, kindFrame, frameOf}
 use Rattle.frames.specs.declared.Frame.the-variants.{More, Whole, Stop}
 
-begun : (read : List ℕ) (opened : Bool) → (length read ≡ 0 → ⊥) → cond (expected opened (getD read 0 0)) (kindFrame (getD read 0 0) read) Stop ≡ frameOf read opened
+begun : (read : List ℕ) (opened : Bool) → (length read ≡ 0 → ⊥)
+    → cond (expected opened (getD read 0 0)) (kindFrame (getD read 0 0) read) Stop ≡ frameOf read opened
 unfolding frameOf
 begun [] opened some = absurd (some refl)
 begun (k ∷ rest) opened some = refl
@@ -38,10 +39,10 @@ module _ (read : List ℕ) where
   asks h = rw (lt-ltb (length read) countEnd h)
 
   module _ (h : countEnd ≤ length read) where
-    pub crowded : logRoom < countIn read → Stop ≡ gossipFrame read
+    pub crowded : logRoom < countRead read → Stop ≡ gossipFrame read
     unfolding gossipFrame
-    crowded l = rw (le-ltb (length read) countEnd h, lt-ltb logRoom (countIn read) l)
+    crowded l = rw (le-ltb (length read) countEnd h, lt-ltb logRoom (countRead read) l)
 
-    pub counted : countIn read ≤ logRoom → Whole (headLong + countIn read * recordLong) ≡ gossipFrame read
+    pub counted : countRead read ≤ logRoom → Whole (headLong + countRead read * recordLong) ≡ gossipFrame read
     unfolding gossipFrame
-    counted l = rw (le-ltb (length read) countEnd h, le-ltb logRoom (countIn read) l)
+    counted l = rw (le-ltb (length read) countEnd h, le-ltb logRoom (countRead read) l)

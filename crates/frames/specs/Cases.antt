@@ -7,12 +7,13 @@ use lib.ListN.{replicate}
 use Rattle.lists.specs.Part.{mid}
 use Rattle.lists.specs.Table.{agrees}
 use Rattle.lists.specs.Tests.{numbers, keep}
-use Rattle.bigendian.specs.Number.{numberFrom}
-use Rattle.ledger.specs.Limits.{logRoom}
+use Rattle.limits.specs.Limits.{logRoom}
+use Rattle.numbers.specs.Number.{numberFrom}
 use Rattle.wire.specs.Kinds.{bodyOf}
+use Rattle.wire.specs.Requests.{replyRoom, isRequest}
 use Rattle.frames.specs.declared.Frame.{Frame}
 use Rattle.frames.specs.declared.Frame.the-variants.{More, Whole, Stop}
-use Rattle.frames.specs.Frame.{expected, countIn, gossipFrame, frameOf}
+use Rattle.frames.specs.Frame.{expected, countRead, gossipFrame, frameOf}
 use Rattle.frames.specs.Next.{kindsStand, nextOf}
 
 -- the message's length; 0 and how many bytes are needed to tell; or what is written where reading stops
@@ -42,6 +43,8 @@ table =
     ∷ (shown (frameOf (1 ∷ 0 ∷ 2 ∷ 1 ∷ []) true), 0 ∷ 5 ∷ [])
     ∷ (shown (frameOf (1 ∷ 9 ∷ 9 ∷ 1 ∷ 0 ∷ []) true), 12069 ∷ [])
     ∷ (shown (frameOf (1 ∷ 9 ∷ 9 ∷ 1 ∷ 1 ∷ []) true), 9 ∷ 1 ∷ [])
+    -- a record's kind is told by its byte
+    ∷ (shown (nextOf (gossip 3 0) true), 9 ∷ 1 ∷ [])
     -- all of it is there, and each record has its kind; what comes after it is left
     ∷ (shown (nextOf (gossip 2 45) true), 0 ∷ 84 ∷ [])
     ∷ (shown (nextOf (gossip 2 46) true), 84 ∷ [])
@@ -50,5 +53,6 @@ table =
     ∷ []
 
 pub framing-practised : agrees table ≡ true
-unfolding shown gossip table mid numberFrom logRoom bodyOf expected countIn gossipFrame frameOf kindsStand nextOf
+unfolding shown gossip table mid numberFrom logRoom bodyOf replyRoom isRequest expected countRead gossipFrame frameOf
+    kindsStand nextOf
 framing-practised = refl

@@ -1,25 +1,26 @@
 -- How many bytes the next message of standard input has, given what is read so far. Assumes nothing.
 use Prim.Native.Nat.{ℕ, _+_, _*_}
-use mathlib.Core.Bool.{Bool, _||_, cond}
+use mathlib.Core.Bool.{Bool, cond}
 use mathlib.Core.List.{List, [], _∷_}
 use lib.Dec.{eqb, ltb}
 use lib.ListN.{length}
 use Rattle.lists.specs.Part.{mid}
-use Rattle.bigendian.specs.Number.{numberOf}
-use Rattle.ledger.specs.Limits.{logRoom}
-use Rattle.wire.specs.Kinds.{bodyOf, headLong, recordLong}
+use Rattle.limits.specs.Limits.{logRoom}
+use Rattle.numbers.specs.Number.{numberOf}
+use Rattle.wire.specs.Kinds.{bodyOf, headLong, recordLong, headNumber, openNumber}
+use Rattle.wire.specs.Requests.{isRequest}
 use Rattle.wire.specs.declared.Body.{Body}
 use Rattle.wire.specs.declared.Body.the-variants.{Long, Bad}
 use Rattle.frames.specs.declared.Frame.{Frame}
 use Rattle.frames.specs.declared.Frame.the-variants.{More, Whole, Stop}
 
--- one kind 11, then kinds 1, 3, 4 and 12: any other is unexpected (a record's too)
+-- one kind 11, then requests: any other kind is unexpected (a record's too)
 unfoldable pub expected : Bool → ℕ → Bool
-expected opened k = cond opened (eqb k 1 || (eqb k 3 || (eqb k 4 || eqb k 12))) (eqb k 11)
+expected opened k = cond opened (isRequest k) (eqb k openNumber)
 
 -- a head is kind, sender, N and then its record count, in two bytes
-unfoldable pub countIn : List ℕ → ℕ
-countIn read = numberOf (mid 3 2 read)
+unfoldable pub countRead : List ℕ → ℕ
+countRead read = numberOf (mid 3 2 read)
 
 abbrev pub countEnd : ℕ
 countEnd = 5
@@ -28,7 +29,7 @@ countEnd = 5
 unfoldable pub gossipFrame : List ℕ → Frame
 gossipFrame read =
     cond (ltb (length read) countEnd) (More countEnd)
-    (cond (ltb logRoom (countIn read)) Stop (Whole (headLong + countIn read * recordLong)))
+    (cond (ltb logRoom (countRead read)) Stop (Whole (headLong + countRead read * recordLong)))
 
 -- of every other kind: one byte of kind, and the kind fixes the body's length
 abbrev pub bodyFrame : Body → Frame
@@ -36,7 +37,7 @@ bodyFrame (Long n) = Whole (1 + n)
 bodyFrame (Bad r) = Stop
 
 abbrev pub kindFrame : ℕ → List ℕ → Frame
-kindFrame k read = cond (eqb k 1) (gossipFrame read) (bodyFrame (bodyOf k))
+kindFrame k read = cond (eqb k headNumber) (gossipFrame read) (bodyFrame (bodyOf k))
 
 -- nothing read tells nothing; an unexpected kind and a count above 256 stop the reading
 unfoldable pub frameOf : List ℕ → Bool → Frame

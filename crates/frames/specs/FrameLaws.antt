@@ -1,7 +1,7 @@
 -- Laws of framing. Assumes nothing.
 --     settled       a length or a stop, once told, stays whatever comes
 --     more-short    more bytes are asked for only while fewer are read, and never more than five
---     whole-long    a message has 1 to 12,069 bytes
+--     whole-long    a message has at least one byte, and no more than the longest
 --     front-tells   nothing past the fifth byte matters
 use Prim.Native.Nat.{ℕ, _+_, _*_, _≤_, _<_}
 use native.Mathlib.Omega.{arith}
@@ -12,14 +12,15 @@ use borrow.Author.Tests.{ltb-true, ltb-false, le-ltb}
 use lib.Dec.{T, eqb, ltb}
 use lib.ListN.{length, take}
 use Rattle.lists.specs.Part.{mid}
-use Rattle.ledger.specs.Limits.{logRoom}
+use Rattle.limits.specs.LimitLaws.{log-some}
+use Rattle.limits.specs.Limits.{logRoom}
 use Rattle.wire.specs.Kinds.{bodyOf, headLong, longest, recordLong}
 use Rattle.wire.specs.Laws.{body-few}
 use Rattle.wire.specs.declared.Body.{Body}
 use Rattle.wire.specs.declared.Body.the-variants.{Long, Bad}
 use Rattle.frames.specs.declared.Frame.{Frame}
 use Rattle.frames.specs.declared.Frame.the-variants.{More, Whole, Stop}
-use Rattle.frames.specs.Frame.{expected, countIn, countEnd, gossipFrame, bodyFrame, frameOf}
+use Rattle.frames.specs.Frame.{expected, countRead, countEnd, gossipFrame, bodyFrame, frameOf}
 
 -- the frame is told: no more bytes are asked for
 abbrev pub told : Frame → Bool
@@ -28,9 +29,14 @@ told (Whole n) = true
 told Stop = true
 
 -- what a gossip's head tells, by its first five bytes
-five-tell : (a b c d e : ℕ) (rest other : List ℕ) → gossipFrame (a ∷ b ∷ c ∷ d ∷ e ∷ rest) ≡ gossipFrame (a ∷ b ∷ c ∷ d ∷ e ∷ other)
-unfolding gossipFrame countIn mid
-five-tell a b c d e rest other = rw (le-ltb (length (a ∷ b ∷ c ∷ d ∷ e ∷ rest)) countEnd (omega arith), le-ltb (length (a ∷ b ∷ c ∷ d ∷ e ∷ other)) countEnd (omega arith))
+five-tell : (a b c d e : ℕ) (rest other : List ℕ)
+    → gossipFrame (a ∷ b ∷ c ∷ d ∷ e ∷ rest) ≡ gossipFrame (a ∷ b ∷ c ∷ d ∷ e ∷ other)
+unfolding gossipFrame countRead mid
+five-tell a b c d e rest other =
+    rw (
+      le-ltb (length (a ∷ b ∷ c ∷ d ∷ e ∷ rest)) countEnd (omega arith),
+      le-ltb (length (a ∷ b ∷ c ∷ d ∷ e ∷ other)) countEnd (omega arith),
+    )
 
 gossip-front : (read : List ℕ) → gossipFrame read ≡ gossipFrame (take countEnd read)
 gossip-front [] = refl
@@ -51,21 +57,26 @@ gossip-settled (a ∷ b ∷ c ∷ d ∷ e ∷ rest) more t = five-tell a b c d e
 
 pub gossip-short : (read : List ℕ) (n : ℕ) → gossipFrame read ≡ More n → (length read < n) × (n ≤ countEnd)
 unfolding gossipFrame
-gossip-short read n = go (ltb (length read) countEnd) refl (ltb logRoom (countIn read))
+gossip-short read n = go (ltb (length read) countEnd) refl (ltb logRoom (countRead read))
   where
-    go : (p : Bool) → ltb (length read) countEnd ≡ p → (q : Bool) → cond p (More countEnd) (cond q Stop (Whole (headLong + countIn read * recordLong))) ≡ More n → (length read < n) × (n ≤ countEnd)
+    go : (p : Bool) → ltb (length read) countEnd ≡ p → (q : Bool)
+        → cond p (More countEnd) (cond q Stop (Whole (headLong + countRead read * recordLong))) ≡ More n
+        → (length read < n) × (n ≤ countEnd)
     go true s q e = let z : countEnd ≡ n = cc in (omega (arith, ltb-true (length read) countEnd s), omega arith)
     go false s true e = let z : _≡_ {A = ℕ} 0 1 = cc in absurd (omega arith)
     go false s false e = let z : _≡_ {A = ℕ} 0 1 = cc in absurd (omega arith)
 
 gossip-long : (read : List ℕ) (n : ℕ) → gossipFrame read ≡ Whole n → (1 ≤ n) × (n ≤ longest)
-unfolding gossipFrame logRoom
-gossip-long read n = go (ltb (length read) countEnd) (ltb logRoom (countIn read)) refl
+unfolding gossipFrame
+gossip-long read n = go (ltb (length read) countEnd) (ltb logRoom (countRead read)) refl
   where
-    go : (p q : Bool) → ltb logRoom (countIn read) ≡ q → cond p (More countEnd) (cond q Stop (Whole (headLong + countIn read * recordLong))) ≡ Whole n → (1 ≤ n) × (n ≤ longest)
+    go : (p q : Bool) → ltb logRoom (countRead read) ≡ q
+        → cond p (More countEnd) (cond q Stop (Whole (headLong + countRead read * recordLong))) ≡ Whole n
+        → (1 ≤ n) × (n ≤ longest)
     go true q s e = let z : _≡_ {A = ℕ} 0 1 = cc in absurd (omega arith)
     go false true s e = let z : _≡_ {A = ℕ} 0 1 = cc in absurd (omega arith)
-    go false false s e = let z : headLong + countIn read * recordLong ≡ n = cc in (omega arith, omega (arith, ltb-false logRoom (countIn read) s))
+    go false false s e = let z : headLong + countRead read * recordLong ≡ n = cc in
+        (omega arith, omega (arith, ltb-false logRoom (countRead read) s))
 
 -- the other kinds
 pub body-settled : (b : Body) (n : ℕ) → bodyFrame b ≡ More n → ⊥
@@ -76,29 +87,34 @@ body-long : (k n : ℕ) → bodyFrame (bodyOf k) ≡ Whole n → (1 ≤ n) × (n
 body-long k n = go (bodyOf k) refl
   where
     go : (b : Body) → bodyOf k ≡ b → bodyFrame b ≡ Whole n → (1 ≤ n) × (n ≤ longest)
-    go (Long m) s e = let z : 1 + m ≡ n = cc in (omega arith, omega (arith, body-few k m s))
+    go (Long m) s e = let z : 1 + m ≡ n = cc in (omega arith, omega (arith, log-some, body-few k m s))
     go (Bad r) s e = let z : _≡_ {A = ℕ} 0 1 = cc in absurd (omega arith)
 
 -- an unexpected kind, a gossip's head, or another kind
 abbrev byKind : Bool → Bool → Frame → Frame → Frame
 byKind p q gossip other = cond p (cond q gossip other) Stop
 
-pub settled : (read more : List ℕ) (opened : Bool) → T (told (frameOf read opened)) → frameOf (read ++ more) opened ≡ frameOf read opened
+pub settled : (read more : List ℕ) (opened : Bool) → T (told (frameOf read opened))
+    → frameOf (read ++ more) opened ≡ frameOf read opened
 unfolding frameOf
 settled [] more opened t = absurd t
 settled (k ∷ rest) more opened t = go (expected opened k) (eqb k 1) t
   where
-    go : (p q : Bool) → T (told (byKind p q (gossipFrame (k ∷ rest)) (bodyFrame (bodyOf k)))) → byKind p q (gossipFrame (k ∷ rest ++ more)) (bodyFrame (bodyOf k)) ≡ byKind p q (gossipFrame (k ∷ rest)) (bodyFrame (bodyOf k))
+    go : (p q : Bool) → T (told (byKind p q (gossipFrame (k ∷ rest)) (bodyFrame (bodyOf k))))
+        → byKind p q (gossipFrame (k ∷ rest ++ more)) (bodyFrame (bodyOf k))
+        ≡ byKind p q (gossipFrame (k ∷ rest)) (bodyFrame (bodyOf k))
     go true true s = gossip-settled (k ∷ rest) more s
     go true false s = refl
     go false q s = refl
 
-pub more-short : (read : List ℕ) (opened : Bool) (n : ℕ) → frameOf read opened ≡ More n → (length read < n) × (n ≤ countEnd)
+pub more-short : (read : List ℕ) (opened : Bool) (n : ℕ) → frameOf read opened ≡ More n
+    → (length read < n) × (n ≤ countEnd)
 unfolding frameOf
 more-short [] opened n e = let z : 1 ≡ n = cc in (omega arith, omega arith)
 more-short (k ∷ rest) opened n e = go (expected opened k) (eqb k 1) e
   where
-    go : (p q : Bool) → byKind p q (gossipFrame (k ∷ rest)) (bodyFrame (bodyOf k)) ≡ More n → (length (k ∷ rest) < n) × (n ≤ countEnd)
+    go : (p q : Bool) → byKind p q (gossipFrame (k ∷ rest)) (bodyFrame (bodyOf k)) ≡ More n
+        → (length (k ∷ rest) < n) × (n ≤ countEnd)
     go true true w = gossip-short (k ∷ rest) n w
     go true false w = absurd (body-settled (bodyOf k) n w)
     go false q w = let z : _≡_ {A = ℕ} 0 1 = cc in absurd (omega arith)
@@ -116,4 +132,5 @@ whole-long (k ∷ rest) opened n e = go (expected opened k) (eqb k 1) e
 pub front-tells : (read : List ℕ) (opened : Bool) → frameOf read opened ≡ frameOf (take countEnd read) opened
 unfolding frameOf
 front-tells [] opened = refl
-front-tells (k ∷ rest) opened = ap (λ (f : Frame). byKind (expected opened k) (eqb k 1) f (bodyFrame (bodyOf k))) (gossip-front (k ∷ rest))
+front-tells (k ∷ rest) opened =
+    ap (λ (f : Frame). byKind (expected opened k) (eqb k 1) f (bodyFrame (bodyOf k))) (gossip-front (k ∷ rest))

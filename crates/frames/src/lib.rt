@@ -1,26 +1,24 @@
 // The next message of standard input: how many bytes it has, as far as what is read tells, and whether it is whole.
-use bigendian::number_at;
-use ledger::LOG_ROOM;
+use limits::log_room;
+use numbers::number_at;
 use wire::Body;
 use wire::HEAD;
 use wire::HEAD_SIZE;
 use wire::KIND_SIZE;
 use wire::OPEN;
-use wire::QUESTION;
 use wire::RECORD;
 use wire::RECORD_SIZE;
-use wire::SEND;
-use wire::TAP;
 use wire::body_of;
+use wire::room_of;
 ghost use mathlib.Core.Path.{_≡_};
-ghost use Prim.Native.Nat.{_+_, _*_, _≤_, _<_};
+ghost use Prim.Native.Nat.{_≤_, _<_};
 ghost use lib.ListN.{length};
-ghost use Rattle.ledger.specs.Limits.{logRoom};
-ghost use Rattle.wire.specs.Kinds.{headLong, recordLong};
+ghost use Rattle.limits.specs.Limits.{logRoom};
 ghost use Rattle.frames.specs.Frame.{expected, gossipFrame, frameOf};
-ghost use Rattle.frames.specs.Next.{recordsStand, Framed, kindsStand, nextOf};
+ghost use Rattle.frames.specs.Next.{recordStands, recordsStand, Counted, kindsStand, nextOf};
 
-// At least so many bytes in all are needed to tell; the message has so many in all; or 09 01 is written, and reading stops.
+// At least so many bytes in all are needed to tell; the message has so many in all; or 09 01 is written, and reading
+// stops.
 pub enum Frame {
     More(usize),
     Whole(usize),
@@ -34,20 +32,14 @@ const COUNT_WIDTH: usize = 2;
 
 const COUNT_END: usize = COUNT_AT + COUNT_WIDTH;
 
-// Kind 11 comes first, then kinds 1, 3, 4 and 12.
+// Kind 11 comes first, then requests.
 fn is_expected(kind: u8, opened: bool) -> bool
     ensures { λ r. ⌜ r ≡ expected opened kind ⌝ }
 {
     if !opened {
         return kind == OPEN;
     }
-    match kind {
-        HEAD => true,
-        TAP => true,
-        QUESTION => true,
-        SEND => true,
-        _ => false,
-    }
+    0 < room_of(kind)
 }
 
 // A head's count fixes how many records follow.
@@ -58,7 +50,7 @@ fn gossip_frame(read: &[u8]) -> Frame
         return Frame::More(COUNT_END);
     }
     let count = number_at(read, COUNT_AT, COUNT_WIDTH);
-    if count > LOG_ROOM {
+    if log_room() < count {
         return Frame::Stop;
     }
     Frame::Whole(HEAD_SIZE + count as usize * RECORD_SIZE)
@@ -84,33 +76,44 @@ pub fn frame_of(read: &[u8], opened: bool) -> Frame
     Frame::Whole(KIND_SIZE + long)
 }
 
-// Whether each of the first records of a gossip message has its kind.
-fn records_stand(msg: &[u8], count: usize) -> bool
-    requires { ⌜ headLong + count * recordLong ≤ length (now msg) ⌝ }
+// Whether record k of a gossip message has its kind, as far as that byte is read.
+fn record_stands(read: &[u8], k: usize) -> bool
+    requires { ⌜ k < logRoom ⌝ }
+    ensures { λ r. ⌜ r ≡ recordStands (now (read .entry)) k ⌝ }
+{
+    let at = HEAD_SIZE + k * RECORD_SIZE;
+    if read.len() <= at {
+        return true;
+    }
+    read[at] == RECORD
+}
+
+// Whether each of the first records of a gossip message has its kind, as far as it is read.
+fn records_stand(read: &[u8], count: usize) -> bool
     requires { ⌜ count ≤ logRoom ⌝ }
-    ensures { λ r. ⌜ r ≡ recordsStand count (now (msg .entry)) ⌝ }
+    ensures { λ r. ⌜ r ≡ recordsStand count (now (read .entry)) ⌝ }
 {
     let mut k = count;
     while k > 0 {
         k -= 1;
-        if msg[HEAD_SIZE + k * RECORD_SIZE] != RECORD {
+        if !record_stands(read, k) {
             return false;
         }
     }
     true
 }
 
-// Whether every piece of a whole message has its kind.
-fn kinds_stand(msg: &[u8]) -> bool
-    requires { ⌜ 0 < length (now msg) ⌝ }
-    requires { ⌜ Framed (now msg) ⌝ }
-    ensures { λ r. ⌜ r ≡ kindsStand (now (msg .entry)) ⌝ }
+// Whether every piece of a message has its kind, as far as it is read.
+fn kinds_stand(read: &[u8]) -> bool
+    requires { ⌜ 0 < length (now read) ⌝ }
+    requires { ⌜ Counted (now read) ⌝ }
+    ensures { λ r. ⌜ r ≡ kindsStand (now (read .entry)) ⌝ }
 {
-    if msg[0] != HEAD {
+    if read[0] != HEAD {
         return true;
     }
-    let count = number_at(msg, COUNT_AT, COUNT_WIDTH);
-    records_stand(msg, count as usize)
+    let count = number_at(read, COUNT_AT, COUNT_WIDTH);
+    records_stand(read, count as usize)
 }
 
 // The next message in what is read: whole only when all of it is there and each piece of it has its kind.
@@ -121,11 +124,11 @@ pub fn next_in(read: &[u8], opened: bool) -> Frame
     let Frame::Whole(n) = frame else {
         return frame;
     };
-    if read.len() < n {
-        return Frame::More(n);
-    }
     if !kinds_stand(read) {
         return Frame::Stop;
+    }
+    if read.len() < n {
+        return Frame::More(n);
     }
     Frame::Whole(n)
 }

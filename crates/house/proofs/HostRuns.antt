@@ -1,4 +1,5 @@
--- A run of calls of `answer` is a run over lent slices and bytes, so all that is proved of those holds of it. Assumes nothing.
+-- A run of calls of `answer` is a run over lent slices and bytes, so all that is proved of those holds of it. Assumes
+-- nothing.
 use Prim.Native.Nat.{ℕ, _≤_, _<_}
 use mathlib.Core.Path.{_≡_, refl, sym, ap, ap₂, subst, _∙_}
 use mathlib.Core.Logic.{_⊎_, inl, inr}
@@ -7,22 +8,22 @@ use mathlib.Core.List.{List, [], _∷_, _++_}
 use borrow.Author.Tests.{le-ltb, ltb-false}
 use lib.Dec.{T, eqb, ltb}
 use lib.ListN.{length, getD, take, drop}
-use Rattle.lists.specs.Facts.{_∈_, either}
-use Rattle.ledger.specs.Limits.{fewest, most}
+use Rattle.lists.specs.TestLaws.{_∈_, either}
+use Rattle.limits.specs.Limits.{fewest, most}
 use Rattle.wire.specs.Kinds.{sendKind}
 use Rattle.wire.specs.Read.{readable}
 use Rattle.wire.specs.Write.{Output, refuse}
 use Rattle.wire.specs.declared.Written.the-variants.{Wrote}
-use Rattle.gossip.specs.Message.{bytesOf, wellFormed, messageOf}
+use Rattle.message.specs.Message.{messageBytes, wellFormed, messageOf}
 use Rattle.meaning.specs.Reply.{refusal, isTaken}
 use Rattle.meaning.specs.Step.{send, gossipStep}
-use Rattle.layout.specs.Words.{bookOf, wordsOf, lawful}
-use Rattle.layout.specs.SoundWords.{lawful-held}
-use Rattle.answers.specs.Lent.{Lent, onBook, heard, tapOn, questionOn, gossipOn, putFront, sendOn}
-use Rattle.speech.specs.KindLaws.{first-taken, first-no-head, first-head, question-not-taken, gossip-not-taken}
-use Rattle.speech.specs.Speech.{bytesFor}
-use Rattle.answering.specs.Answer.{Done, doneBy, sendDone, badOn, kindIn, doneOn, Answered, kindSaid, answerBy}
-use Rattle.answering.specs.AnswerLaws.{within, first-said}
+use Rattle.lent.specs.Words.{bookOf, wordsOf, lawful}
+use Rattle.lent.specs.SoundWords.{lawful-held}
+use Rattle.promise.specs.Lent.{Lent, onBook, heard, tapOn, questionOn, gossipOn, putFront, sendOn}
+use Rattle.answer.specs.KindLaws.{first-taken, first-no-head, first-head, question-not-taken, gossip-not-taken}
+use Rattle.answer.specs.Speech.{bytesFor}
+use Rattle.answer.specs.Answer.{Done, doneBy, sendDone, badOn, kindIn, doneOn, Answered, kindSaid, answerBy, Line, lines, doneIn, otherDone}
+use Rattle.answer.specs.AnswerLaws.{within, first-said}
 use Rattle.house.specs.House.{put, grown, Step}
 use Rattle.house.specs.HostHouse as host
 use Rattle.house.specs.HostHouse.{afterCall, Call, call, HostRun, HostDemand}
@@ -34,7 +35,8 @@ use Rattle.house.proofs.LentRuns.{lent-demand}
 put-back : {A : Type 0} (f : ℕ → A) (i : ℕ) → put f i (f i) ≡ f
 put-back f i = λ j. λ k. either (put-either f i (f i) k) (λ p. p .1 ∙ ap f (sym (p .0))) (λ p. p .1) j
 
-module _ (n : ℕ) (h : LentHouse) (i : ℕ) (u : i < n) (bytes out : List ℕ) (from : T (wellFormed bytes) → bytes ∈ h .sent) where
+module _ (n : ℕ) (h : LentHouse) (i : ℕ) (u : i < n) (bytes out : List ℕ)
+    (from : T (wellFormed bytes) → bytes ∈ h .sent) where
   ws : List ℕ
   ws = h .words i
 
@@ -58,28 +60,38 @@ module _ (n : ℕ) (h : LentHouse) (i : ℕ) (u : i < n) (bytes out : List ℕ) 
   abbrev fronted : Done → Answered
   fronted d = record { long = length (d .says); words = d .words; bytes = d .says ++ drop (length (d .says)) out }
 
-  by-kind : (d : Done) → 1 ≤ length (d .says) → after (fronted d) ≡ left (d .words) (take (length (d .says)) (d .says ++ drop (length (d .says)) out)) (eqb (getD (d .says) 0 0) 1) (eqb (getD (d .says) 0 0) 5)
-  by-kind d s = ap (λ (k : ℕ). left (d .words) (take (length (d .says)) (d .says ++ drop (length (d .says)) out)) (eqb k 1) (eqb k 5)) (first-said (d .says) (drop (length (d .says)) out) s)
+  by-kind : (d : Done) → 1 ≤ length (d .says)
+      → after (fronted d) ≡ left (d .words) (take (length (d .says)) (d .says ++ drop (length (d .says)) out))
+      (eqb (getD (d .says) 0 0) 1) (eqb (getD (d .says) 0 0) 5)
+  by-kind d s = ap (λ (k : ℕ). left (d .words) (take (length (d .says)) (d .says ++ drop (length (d .says)) out))
+      (eqb k 1) (eqb k 5)) (first-said (d .says) (drop (length (d .says)) out) s)
 
   -- a reply leaves what the operation leaves, sends nothing, and says by its kind whether a tap is taken
-  by-reply : (o : Lent) (c : Bool) → isTaken (o .reply) ≡ c → 1 ≤ length (bytesFor (o .reply)) → (said : List ℕ) → after (fronted (doneBy o)) ≡ left (o .words) said false c
+  by-reply : (o : Lent) (c : Bool) → isTaken (o .reply) ≡ c → 1 ≤ length (bytesFor (o .reply)) → (said : List ℕ)
+      → after (fronted (doneBy o)) ≡ left (o .words) said false c
   by-reply o c e s said =
       by-kind (doneBy o) s
-      ∙ ap₂ (λ (x y : Bool). left (o .words) (take (length (bytesFor (o .reply))) (bytesFor (o .reply) ++ drop (length (bytesFor (o .reply))) out)) x y) (first-no-head (o .reply)) (first-taken (o .reply) ∙ e)
+      ∙ ap₂ (λ (x y : Bool). left (o .words)
+      (take (length (bytesFor (o .reply))) (bytesFor (o .reply) ++ drop (length (bytesFor (o .reply))) out)) x y)
+      (first-no-head (o .reply)) (first-taken (o .reply) ∙ e)
 
   abbrev Goes : LentHouse → Type 0
   Goes h′ = LentStep n h h′ ⊎ (h ≡ h′)
 
   by-tap : 1 ≤ length (bytesFor (tapOn ws bytes .reply)) → Goes (after (fronted (doneBy (tapOn ws bytes))))
   unfolding ws lentTap grown
-  by-tap s = subst Goes (sym (by-reply (tapOn ws bytes) (isTaken (tapOn ws bytes .reply)) refl s [])) (inl (tap i u bytes))
+  by-tap s = subst Goes (sym (by-reply (tapOn ws bytes) (isTaken (tapOn ws bytes .reply)) refl s []))
+      (inl (tap i u bytes))
 
-  by-question : 1 ≤ length (bytesFor (questionOn ws bytes .reply)) → Goes (after (fronted (doneBy (questionOn ws bytes))))
+  by-question : 1 ≤ length (bytesFor (questionOn ws bytes .reply))
+      → Goes (after (fronted (doneBy (questionOn ws bytes))))
   unfolding ws lentQuestion
-  by-question s = subst Goes (sym (by-reply (questionOn ws bytes) false (question-not-taken ws bytes) s [])) (inl (question i u bytes))
+  by-question s = subst Goes (sym (by-reply (questionOn ws bytes) false (question-not-taken ws bytes) s []))
+      (inl (question i u bytes))
 
   -- a refusal leaves the house as it was
-  by-refusal : (k : ℕ) → 1 ≤ length (bytesFor (refusal k)) → (words : List ℕ) → words ≡ ws → Goes (after (fronted (doneBy (record { reply = refusal k; words = words }))))
+  by-refusal : (k : ℕ) → 1 ≤ length (bytesFor (refusal k)) → (words : List ℕ) → words ≡ ws
+      → Goes (after (fronted (doneBy (record { reply = refusal k; words = words }))))
   by-refusal k s words e =
       let o : Lent = record { reply = refusal k; words = words } in
       inr (sym (by-reply o false refl s [] ∙ ap (λ (w : List ℕ). left w [] false false) e ∙ stays))
@@ -88,7 +100,8 @@ module _ (n : ℕ) (h : LentHouse) (i : ℕ) (u : i < n) (bytes out : List ℕ) 
   by-bad = go (lawful ws) refl
     where
       bad : Bool → Lent
-      bad c = cond c (record { reply = refusal 1; words = wordsOf (bookOf ws) }) (record { reply = refusal 11; words = ws })
+      bad c = cond c (record { reply = refusal 1; words = wordsOf (bookOf ws) })
+          (record { reply = refusal 11; words = ws })
 
       go : (c : Bool) → lawful ws ≡ c → 1 ≤ length (bytesFor ((bad c) .reply)) → Goes (after (fronted (doneBy (bad c))))
       go true e s = by-refusal 1 s (wordsOf (bookOf ws)) (lawful-held ws (subst T (sym e) tt) .words)
@@ -113,7 +126,7 @@ module _ (n : ℕ) (h : LentHouse) (i : ℕ) (u : i < n) (bytes out : List ℕ) 
 
   -- a message that was sent stands at the output's front
   message : List ℕ
-  message = bytesOf (send (bookOf ws))
+  message = messageBytes (send (bookOf ws))
 
   abbrev asSent : Output
   asSent = record { answer = Wrote (length message); bytes = message ++ drop (length message) out }
@@ -121,42 +134,72 @@ module _ (n : ℕ) (h : LentHouse) (i : ℕ) (u : i < n) (bytes out : List ℕ) 
   sends-so : lawful ws ≡ true → length message ≤ length out → sendOn ws out ≡ asSent
   unfolding sendOn message
   sends-so e l =
-      ap (λ (c : Bool). cond c (putFront message out) (refuse 11 out)) e ∙ ap (λ (c : Bool). cond c (refuse 12 out) asSent) (le-ltb (length out) (length message) l)
+      ap (λ (c : Bool). cond c (putFront message out) (refuse 11 out)) e
+      ∙ ap (λ (c : Bool). cond c (refuse 12 out) asSent) (le-ltb (length out) (length message) l)
 
-  by-sent : lawful ws ≡ true → length message ≤ length out → left ws (take (length message) (message ++ drop (length message) out)) true false ≡ lentSend h i out (length message)
+  by-sent : lawful ws ≡ true → length message ≤ length out
+      → left ws (take (length message) (message ++ drop (length message) out)) true false
+      ≡ lentSend h i out (length message)
   unfolding ws lentSend
   by-sent e l =
       let q : asSent ≡ sendOn ws out = sym (sends-so e l) in
-      λ j. record { words = put-back (h .words) i j; sent = take (length message) (q j .bytes) ∷ h .sent; history = h .history }
+      λ j. record {
+        words = put-back (h .words) i j;
+        sent = take (length message) (q j .bytes) ∷ h .sent;
+        history = h .history;
+      }
 
-  by-send : 1 ≤ length (sendDone ws .says) → length (sendDone ws .says) ≤ length out → Goes (after (fronted (sendDone ws)))
+  by-send : 1 ≤ length (sendDone ws .says) → length (sendDone ws .says) ≤ length out
+      → Goes (after (fronted (sendDone ws)))
   unfolding ws message
   by-send = go (lawful ws) refl
     where
       done : Bool → Done
       done c = record { says = cond c message (bytesFor (refusal 11)); words = ws }
 
-      go : (c : Bool) → lawful ws ≡ c → 1 ≤ length ((done c) .says) → length ((done c) .says) ≤ length out → Goes (after (fronted (done c)))
+      go : (c : Bool) → lawful ws ≡ c → 1 ≤ length ((done c) .says) → length ((done c) .says) ≤ length out
+          → Goes (after (fronted (done c)))
       go true e s l =
           let said = take (length message) (message ++ drop (length message) out) in
-          subst Goes (sym (by-kind (done true) s ∙ ap (λ (k : ℕ). left ws said (eqb k 1) (eqb k 5)) (first-head (send (bookOf ws))) ∙ by-sent e l))
+          subst Goes (sym (by-kind (done true) s
+          ∙ ap (λ (k : ℕ). left ws said (eqb k 1) (eqb k 5)) (first-head (send (bookOf ws))) ∙ by-sent e l))
           (inl (sends i u out (length message) (ap (λ (o : Output). o .answer) (sends-so e l))))
       go false e s l = by-refusal 11 s ws refl
 
+  -- bytes of kind 12 are a send, or no request
+  by-other : 1 ≤ length (otherDone ws bytes .says) → length (otherDone ws bytes .says) ≤ length out
+      → Goes (after (fronted (otherDone ws bytes)))
+  by-other = go (readable sendKind bytes)
+    where
+      done : Bool → Done
+      done c = cond c (sendDone ws) (doneBy (badOn ws))
+
+      go : (c : Bool) → 1 ≤ length ((done c) .says) → length ((done c) .says) ≤ length out
+          → Goes (after (fronted (done c)))
+      go true s l = by-send s l
+      go false s l = by-bad s
+
+  -- a line of the table of requests: what it comes to is a step, or leaves the house as it was
+  abbrev Steps : Done → Type 0
+  Steps d = 1 ≤ length (d .says) → length (d .says) ≤ length out → Goes (after (fronted d))
+
+  abbrev AllStep : List Line → Type 0
+  AllStep [] = Unit {0}
+  AllStep (l ∷ ls) = Steps (l .done ws bytes) × AllStep ls
+
+  by-line : (ls : List Line) → AllStep ls → Steps (doneIn ls ws bytes)
+  by-line [] a s l = by-bad s
+  by-line (x ∷ ls) a s l = go (eqb (kindIn bytes) (x .number)) (by-line ls (a .1)) s l
+    where
+      go : (c : Bool) → Steps (doneIn ls ws bytes) → Steps (cond c (x .done ws bytes) (doneIn ls ws bytes))
+      go true rest = a .0
+      go false rest = rest
+
   by-done : length (doneOn ws bytes .says) ≤ length out → Goes (after (fronted (doneOn ws bytes)))
   unfolding doneOn
-  by-done room = go (eqb (kindIn bytes) 1) (eqb (kindIn bytes) 3) (eqb (kindIn bytes) 4) (readable sendKind bytes) (within ws bytes .some) room
-    where
-      done : Bool → Bool → Bool → Bool → Done
-      done g t q s =
-          cond g (doneBy (gossipOn ws bytes)) (cond t (doneBy (tapOn ws bytes)) (cond q (doneBy (questionOn ws bytes)) (cond s (sendDone ws) (doneBy (badOn ws)))))
-
-      go : (g t q s : Bool) → 1 ≤ length ((done g t q s) .says) → length ((done g t q s) .says) ≤ length out → Goes (after (fronted (done g t q s)))
-      go true t q s some l = by-gossip some
-      go false true q s some l = by-tap some
-      go false false true s some l = by-question some
-      go false false false true some l = by-send some l
-      go false false false false some l = by-bad some
+  by-done room =
+      by-line lines ((λ s l. by-gossip s), ((λ s l. by-tap s), ((λ s l. by-question s), (by-other, tt))))
+      (within ws bytes .some) room
 
   -- a call is a step over lent slices and bytes, or leaves the house as it was
   pub call-goes : Goes (afterCall h i bytes out)
@@ -177,7 +220,8 @@ module _ (n : ℕ) where
   host-run (host.onward r c) = next (host-run r) c
     where
       next : {h h′ : LentHouse} → LentRun n h → Call n h h′ → LentRun n h′
-      next {h} r (call i u bytes out from) = either (call-goes n h i u bytes out from) (λ s. onward r s) (λ e. subst (LentRun n) e r)
+      next {h} r (call i u bytes out from) =
+          either (call-goes n h i u bytes out from) (λ s. onward r s) (λ e. subst (LentRun n) e r)
 
   -- so at every moment of it the third demand holds, and no refused consent goes live
   pub host-demand : fewest ≤ n → n ≤ most → {h : LentHouse} → HostRun n h → HostDemand n h
@@ -188,4 +232,5 @@ module _ (n : ℕ) where
 
       calls : (h′ : LentHouse) → Call n h h′ → Step n (held n h) (held n h′) ⊎ (held n h ≡ held n h′)
       calls h′ (call i u bytes out from) =
-          either (call-goes n h i u bytes out from) (λ s. d .steps (afterCall h i bytes out) s) (λ e. inr (ap (held n) e))
+          either (call-goes n h i u bytes out from) (λ s. d .steps (afterCall h i bytes out) s)
+          (λ e. inr (ap (held n) e))

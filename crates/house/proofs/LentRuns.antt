@@ -1,4 +1,5 @@
--- A run over lent slices and bytes is a run of the books that they hold, so the third demand speaks of it. Assumes nothing.
+-- A run over lent slices and bytes is a run of the books that they hold, so the third demand speaks of it. Assumes
+-- nothing.
 use Prim.Native.Nat.{ℕ, _≤_, _<_}
 use native.Mathlib.Omega.{arith}
 use mathlib.Core.Path.{_≡_, refl, sym, ap, ap₂, subst, _∙_}
@@ -8,34 +9,35 @@ use mathlib.Core.List.{List, [], _∷_, _++_, map, List·Memᴰ·cases-cons}
 use lib.Dec.{T, eqb, ltb, ltb→lt, nltb→le}
 use lib.ListN.{length, getD, take, drop}
 use lib.Seq.{take-at}
-use Rattle.lists.specs.Facts.{_∈_, either, is-true, here, there, none-in}
-use Rattle.lists.specs.MoreFacts.{eq→eqb}
+use Rattle.lists.specs.TestLaws.{_∈_, either, is-true, here, there, none-in}
+use Rattle.lists.specs.ElementLaws.{eq→eqb}
 use Rattle.lists.specs.Tests.{firstOf}
+use Rattle.limits.specs.Limits.{fewest, most}
 use Rattle.stamp.specs.Stamp.{Stamp}
-use Rattle.tally.specs.Tap.{bodyFits}
+use Rattle.tally.specs.Body.{says, bodyFits}
 use Rattle.tally.specs.declared.Tap.{Tap}
 use Rattle.ledger.specs.LimitLaws.{range-from}
-use Rattle.ledger.specs.Limits.{fewest, most}
 use Rattle.ledger.specs.Message.{Message, inRange, messageFits}
 use Rattle.ledger.specs.Record.{Record}
 use Rattle.wire.specs.Kinds.{tapKind, questionKind, tapAt, stampAt}
 use Rattle.wire.specs.Read.{lineOf, readable}
 use Rattle.wire.specs.Write.{Output, refuse}
 use Rattle.wire.specs.declared.Written.the-variants.{Wrote}
-use Rattle.gossip.specs.Message.{wellFormed, messageOf, bytesOf}
-use Rattle.gossip.specs.MessageLaws.{message-bytes, bytes-well}
+use Rattle.message.specs.Message.{wellFormed, messageOf, messageBytes}
+use Rattle.message.specs.MessageLaws.{message-bytes, bytes-well}
 use Rattle.meaning.specs.Book.{Book, fresh}
 use Rattle.meaning.specs.BookLaws.{Sound}
 use Rattle.meaning.specs.Reply.{Reply, refusal, permits}
 use Rattle.meaning.specs.Step.{Outcome, openStops, tapStep, newRecord, ask, send, gossipStep}
-use Rattle.layout.specs.SoundWords.{sound-lawful}
-use Rattle.layout.specs.Words.{bookLong, bookOf, wordsOf, lawful}
-use Rattle.answers.specs.Lent.{Lent, hearTap, tapOn, promptIn, labelIn, questionOn, gossipOn, putFront, sendOn, openOr, openOn}
-use Rattle.answers.specs.KeepsLaws.{question-keeps}
-use Rattle.answers.specs.LentLaws.{lentOf, book-back, tap-on, question-on, gossip-on, send-on}
+use Rattle.lent.specs.SoundWords.{sound-lawful}
+use Rattle.lent.specs.Words.{bookLong, bookOf, wordsOf, lawful}
+use Rattle.promise.specs.Lent.{Lent, hearTap, tapOn, promptIn, labelIn, questionOn, gossipOn, putFront, sendOn, openOr, openOn}
+use Rattle.promise.specs.KeepsLaws.{question-keeps}
+use Rattle.promise.specs.LentLaws.{lentOf, book-back, tap-on, question-on, gossip-on, send-on}
 use Rattle.house.specs.Consent.{answerAt, Consent}
-use Rattle.house.specs.Demand.{Answered, Demand}
-use Rattle.house.specs.House.{House, openHouse, put, grown, afterTap, afterSend, afterGossip, Step, Run}
+use Rattle.house.specs.Demand.{HeardAs, Demand}
+use Rattle.house.specs.House.{House, openHouse, put, grown, afterRequest, afterTap, afterSend, afterGossip}
+use Rattle.house.specs.House.{Step, Run}
 use Rattle.house.specs.House as books
 use Rattle.house.specs.LentHouse.{LentHouse, openLent, recordFor, lentTap, lentQuestion, lentSend, lentGossip, LentStep, tap, question, sends, arrives, LentRun, opened, onward, held, LentDemand}
 use Rattle.house.proofs.Consent.{no-refused-consent}
@@ -49,11 +51,12 @@ pub record Same (n : ℕ) (h : LentHouse) : Type 0 where
   pub run : Run n house
   pub words : (k : ℕ) → k < n → h .words k ≡ wordsOf (house .book k)
   pub past : (k : ℕ) → n ≤ k → house .book k ≡ fresh k n
-  pub sent : h .sent ≡ map bytesOf (house .sent)
+  pub sent : h .sent ≡ map messageBytes (house .sent)
   pub history : h .history ≡ house .history
 
 put-words :
-    (n : ℕ) (W : ℕ → List ℕ) (B : ℕ → Book) → ((k : ℕ) → k < n → W k ≡ wordsOf (B k)) → (i : ℕ) (w : List ℕ) (b : Book) → w ≡ wordsOf b
+    (n : ℕ) (W : ℕ → List ℕ) (B : ℕ → Book) → ((k : ℕ) → k < n → W k ≡ wordsOf (B k)) → (i : ℕ) (w : List ℕ) (b : Book)
+    → w ≡ wordsOf b
     → (k : ℕ) → k < n → put W i w k ≡ wordsOf (put B i b k)
 put-words n W B f i w b e k l =
     either (put-either W i w k)
@@ -61,23 +64,29 @@ put-words n W B f i w b e k l =
     (λ p. either (put-either B i b k) (λ q. absurd (p .0 (q .0))) (λ q. p .1 ∙ f k l ∙ ap wordsOf (sym (q .1))))
 
 -- a slice put where it was already
-put-same : (n : ℕ) (W : ℕ → List ℕ) (B : ℕ → Book) → ((k : ℕ) → k < n → W k ≡ wordsOf (B k)) → (i : ℕ) (w : List ℕ) → w ≡ wordsOf (B i) → (k : ℕ) → k < n → put W i w k ≡ wordsOf (B k)
-put-same n W B f i w e k l = either (put-either W i w k) (λ p. p .1 ∙ e ∙ ap (λ (j : ℕ). wordsOf (B j)) (sym (p .0))) (λ p. p .1 ∙ f k l)
+put-same : (n : ℕ) (W : ℕ → List ℕ) (B : ℕ → Book) → ((k : ℕ) → k < n → W k ≡ wordsOf (B k)) → (i : ℕ) (w : List ℕ)
+    → w ≡ wordsOf (B i) → (k : ℕ) → k < n → put W i w k ≡ wordsOf (B k)
+put-same n W B f i w e k l =
+    either (put-either W i w k) (λ p. p .1 ∙ e ∙ ap (λ (j : ℕ). wordsOf (B j)) (sym (p .0))) (λ p. p .1 ∙ f k l)
 
-put-past : (n : ℕ) (B : ℕ → Book) → ((k : ℕ) → n ≤ k → B k ≡ fresh k n) → (i : ℕ) → i < n → (b : Book) (k : ℕ) → n ≤ k → put B i b k ≡ fresh k n
+put-past : (n : ℕ) (B : ℕ → Book) → ((k : ℕ) → n ≤ k → B k ≡ fresh k n) → (i : ℕ) → i < n → (b : Book) (k : ℕ) → n ≤ k
+    → put B i b k ≡ fresh k n
 put-past n B f i u b k l = either (put-either B i b k) (λ p. absurd (omega (arith, p .0))) (λ p. p .1 ∙ f k l)
 
 -- the messages that some bytes hold are those that were written
-messages-back : (ms : List Message) → ((m : Message) → m ∈ ms → T (messageFits bodyFits m)) → map messageOf (map bytesOf ms) ≡ ms
+messages-back : (ms : List Message) → ((m : Message) → m ∈ ms → T (messageFits bodyFits m))
+    → map messageOf (map messageBytes ms) ≡ ms
 messages-back [] f = refl
 messages-back (m ∷ ms) f = ap₂ _∷_ (message-bytes m (f m here)) (messages-back ms (λ x y. f x (there y)))
 
 -- bytes of some messages are those of one of them
-bytes-from : (ms : List Message) (bytes : List ℕ) → bytes ∈ map bytesOf ms → (m : Message) × (m ∈ ms) × (bytes ≡ bytesOf m)
+bytes-from : (ms : List Message) (bytes : List ℕ) → bytes ∈ map messageBytes ms
+    → (m : Message) × (m ∈ ms) × (bytes ≡ messageBytes m)
 bytes-from [] bytes x = none-in x
 bytes-from (m ∷ ms) bytes x = either (List·Memᴰ·cases-cons x) (λ e. (m, here, e)) (λ y. later (bytes-from ms bytes y))
   where
-    later : ((z : Message) × (z ∈ ms) × (bytes ≡ bytesOf z)) → (z : Message) × (z ∈ m ∷ ms) × (bytes ≡ bytesOf z)
+    later : ((z : Message) × (z ∈ ms) × (bytes ≡ messageBytes z))
+        → (z : Message) × (z ∈ m ∷ ms) × (bytes ≡ messageBytes z)
     later w = (w .0, there (w .1), w .2)
 
 module _ (n : ℕ) (lo : fewest ≤ n) (hi : n ≤ most) where
@@ -94,7 +103,8 @@ module _ (n : ℕ) (lo : fewest ≤ n) (hi : n ≤ most) where
   held-same : {h : LentHouse} (s : Same n h) → held n h ≡ s .house
   unfolding held
   held-same {h} s =
-      let q : map messageOf (h .sent) ≡ s .house .sent = ap (map messageOf) (s .sent) ∙ messages-back (s .house .sent) (fits-of s) in
+      let q : map messageOf (h .sent) ≡ s .house .sent = ap (map messageOf) (s .sent)
+      ∙ messages-back (s .house .sent) (fits-of s) in
       λ j. record { book = λ k. at k (ltb k n) refl j; sent = q j; history = s .history j }
     where
       at : (k : ℕ) (c : Bool) → ltb k n ≡ c → cond c (bookOf (h .words k)) (fresh k n) ≡ s .house .book k
@@ -111,7 +121,7 @@ module _ (n : ℕ) (lo : fewest ≤ n) (hi : n ≤ most) where
   not-grown k r history = refl
 
   next-tap : {h : LentHouse} (s : Same n h) (i : ℕ) → i < n → (bytes : List ℕ) → Next s (lentTap h i bytes)
-  unfolding lentTap afterTap recordFor
+  unfolding lentTap afterTap afterRequest recordFor
   next-tap {h} s i u bytes = go (readable (tapKind (b .screens)) bytes) refl
     where
       b : Book
@@ -127,33 +137,43 @@ module _ (n : ℕ) (lo : fewest ≤ n) (hi : n ≤ most) where
       comes : (o : Outcome) → hearTap b bytes ≡ o → tapOn (h .words i) bytes ≡ lentOf o
       comes o e = ap (λ (w : List ℕ). tapOn w bytes) (s .words i u) ∙ tap-on b (sound-of s i u) bytes ∙ ap lentOf e
 
-      becomes : newRecord (bookOf (h .words i)) (tapAt 1 (lineOf (tapKind (bookOf (h .words i) .screens)) bytes)) (stampAt 6 (lineOf (tapKind (bookOf (h .words i) .screens)) bytes)) ≡ newRecord b t l
-      becomes = ap (λ (x : Book). newRecord x (tapAt 1 (lineOf (tapKind (x .screens)) bytes)) (stampAt 6 (lineOf (tapKind (x .screens)) bytes))) (book-of s i u)
+      asRecord : Book → Record
+      asRecord x =
+          let line = lineOf (tapKind (x .screens)) bytes in newRecord x (says (tapAt 1 line)) (stampAt 6 line)
+
+      becomes : asRecord (bookOf (h .words i)) ≡ asRecord b
+      becomes = ap asRecord (book-of s i u)
 
       go : (c : Bool) → readable (tapKind (b .screens)) bytes ≡ c → Next s (lentTap h i bytes)
       go true e =
-          let q = comes (tapStep b t l) (ap (λ (c : Bool). cond c (tapStep b t l) (record { reply = refusal 1; book = b })) e) in
+          let q = comes (tapStep b t l)
+          (ap (λ (c : Bool). cond c (tapStep b t l) (record { reply = refusal 1; book = b })) e) in
           record {
             same = record {
               house = afterTap (s .house) i t l;
               run = books.onward (s .run) (books.tap i u t l);
-              words = put-words n (h .words) (s .house .book) (s .words) i (tapOn (h .words i) bytes .words) ((tapStep b t l) .book) (ap (λ (o : Lent). o .words) q);
+              words = put-words n (h .words) (s .house .book) (s .words) i (tapOn (h .words i) bytes .words)
+                  ((tapStep b t l) .book) (ap (λ (o : Lent). o .words) q);
               past = put-past n (s .house .book) (s .past) i u ((tapStep b t l) .book);
               sent = s .sent;
-              history = ap₂ (λ (x : Reply) (y : Record). grown x y (h .history)) (ap (λ (o : Lent). o .reply) q) becomes ∙ ap (grown ((tapStep b t l) .reply) (newRecord b t l)) (s .history);
+              history = ap₂ (λ (x : Reply) (y : Record). grown x y (h .history)) (ap (λ (o : Lent). o .reply) q) becomes
+                  ∙ ap (grown ((tapStep b t l) .reply) (asRecord b)) (s .history);
             };
             way = inl (books.tap i u t l);
           }
       go false e =
-          let q = comes (record { reply = refusal 1; book = b }) (ap (λ (c : Bool). cond c (tapStep b t l) (record { reply = refusal 1; book = b })) e) in
+          let q = comes (record { reply = refusal 1; book = b })
+          (ap (λ (c : Bool). cond c (tapStep b t l) (record { reply = refusal 1; book = b })) e) in
           record {
             same = record {
               house = s .house;
               run = s .run;
-              words = put-same n (h .words) (s .house .book) (s .words) i (tapOn (h .words i) bytes .words) (ap (λ (o : Lent). o .words) q);
+              words = put-same n (h .words) (s .house .book) (s .words) i (tapOn (h .words i) bytes .words)
+                  (ap (λ (o : Lent). o .words) q);
               past = s .past;
               sent = s .sent;
-              history = ap₂ (λ (x : Reply) (y : Record). grown x y (h .history)) (ap (λ (o : Lent). o .reply) q) becomes ∙ not-grown 1 (newRecord b t l) (h .history) ∙ s .history;
+              history = ap₂ (λ (x : Reply) (y : Record). grown x y (h .history)) (ap (λ (o : Lent). o .reply) q) becomes
+                  ∙ not-grown 1 (asRecord b) (h .history) ∙ s .history;
             };
             way = inr refl;
           }
@@ -166,7 +186,8 @@ module _ (n : ℕ) (lo : fewest ≤ n) (hi : n ≤ most) where
         same = record {
           house = s .house;
           run = s .run;
-          words = put-same n (h .words) (s .house .book) (s .words) i (questionOn (h .words i) bytes .words) (question-keeps (h .words i) bytes ∙ s .words i u);
+          words = put-same n (h .words) (s .house .book) (s .words) i (questionOn (h .words i) bytes .words)
+              (question-keeps (h .words i) bytes ∙ s .words i u);
           past = s .past;
           sent = s .sent;
           history = s .history;
@@ -175,14 +196,20 @@ module _ (n : ℕ) (lo : fewest ≤ n) (hi : n ≤ most) where
       }
 
   -- what stands at the front of the output is the one writing of the message
-  front : (bytes out : List ℕ) (k : ℕ) → putFront bytes out .answer ≡ Wrote k → take k (putFront bytes out .bytes) ≡ bytes
+  front : (bytes out : List ℕ) (k : ℕ) → putFront bytes out .answer ≡ Wrote k
+      → take k (putFront bytes out .bytes) ≡ bytes
   front bytes out k e = go (ltb (length out) (length bytes)) refl e
     where
-      go : (c : Bool) → ltb (length out) (length bytes) ≡ c → cond c (refuse 12 out) (record { answer = Wrote (length bytes); bytes = bytes ++ drop (length bytes) out }) .answer ≡ Wrote k → take k (cond c (refuse 12 out) (record { answer = Wrote (length bytes); bytes = bytes ++ drop (length bytes) out }) .bytes) ≡ bytes
+      go : (c : Bool) → ltb (length out) (length bytes) ≡ c
+          → cond c (refuse 12 out)
+          (record { answer = Wrote (length bytes); bytes = bytes ++ drop (length bytes) out }) .answer ≡ Wrote k
+          → take k (cond c (refuse 12 out)
+          (record { answer = Wrote (length bytes); bytes = bytes ++ drop (length bytes) out }) .bytes) ≡ bytes
       go true e f = let z : _≡_ {A = ℕ} 0 1 = cc in absurd (omega arith)
       go false e f = take-at bytes (drop (length bytes) out) k (cc)
 
-  next-send : {h : LentHouse} (s : Same n h) (i : ℕ) → i < n → (out : List ℕ) (k : ℕ) → sendOn (h .words i) out .answer ≡ Wrote k → Next s (lentSend h i out k)
+  next-send : {h : LentHouse} (s : Same n h) (i : ℕ) → i < n → (out : List ℕ) (k : ℕ)
+      → sendOn (h .words i) out .answer ≡ Wrote k → Next s (lentSend h i out k)
   unfolding lentSend afterSend
   next-send {h} s i u out k e =
       record {
@@ -191,35 +218,44 @@ module _ (n : ℕ) (lo : fewest ≤ n) (hi : n ≤ most) where
           run = books.onward (s .run) (books.sends i u);
           words = s .words;
           past = s .past;
-          sent = ap₂ _∷_ (ap (λ (o : Output). take k (o .bytes)) square ∙ front (bytesOf (send (s .house .book i))) out k (sym (ap (λ (o : Output). o .answer) square) ∙ e)) (s .sent);
+          sent = ap₂ _∷_ (ap (λ (o : Output). take k (o .bytes)) square
+              ∙ front (messageBytes (send (s .house .book i))) out k (sym (ap (λ (o : Output). o .answer) square) ∙ e))
+              (s .sent);
           history = s .history;
         };
         way = inl (books.sends i u);
       }
     where
-      square : sendOn (h .words i) out ≡ putFront (bytesOf (send (s .house .book i))) out
+      square : sendOn (h .words i) out ≡ putFront (messageBytes (send (s .house .book i))) out
       square = ap (λ (w : List ℕ). sendOn w out) (s .words i u) ∙ send-on (s .house .book i) (sound-of s i u) out
 
   -- bytes that were sent are heard as the message that they are
-  heard-sent : {h : LentHouse} (s : Same n h) (i : ℕ) → i < n → (m : Message) → m ∈ s .house .sent → gossipOn (h .words i) (bytesOf m) ≡ lentOf (gossipStep (s .house .book i) m)
+  heard-sent : {h : LentHouse} (s : Same n h) (i : ℕ) → i < n → (m : Message) → m ∈ s .house .sent
+      → gossipOn (h .words i) (messageBytes m) ≡ lentOf (gossipStep (s .house .book i) m)
   heard-sent {h} s i u m x =
-      ap (λ (w : List ℕ). gossipOn w (bytesOf m)) (s .words i u)
-      ∙ gossip-on (s .house .book i) (sound-of s i u) (bytesOf m)
-      ∙ ap (λ (c : Bool). lentOf (cond c (gossipStep (s .house .book i) (messageOf (bytesOf m))) (record { reply = refusal 1; book = s .house .book i }))) (is-true (wellFormed (bytesOf m)) (bytes-well m (fits-of s m x)))
+      ap (λ (w : List ℕ). gossipOn w (messageBytes m)) (s .words i u)
+      ∙ gossip-on (s .house .book i) (sound-of s i u) (messageBytes m)
+      ∙ ap (λ (c : Bool). lentOf
+      (cond c (gossipStep (s .house .book i) (messageOf (messageBytes m)))
+      (record { reply = refusal 1; book = s .house .book i })))
+      (is-true (wellFormed (messageBytes m)) (bytes-well m (fits-of s m x)))
       ∙ ap (λ (y : Message). lentOf (gossipStep (s .house .book i) y)) (message-bytes m (fits-of s m x))
 
-  next-gossip : {h : LentHouse} (s : Same n h) (i : ℕ) → i < n → (bytes : List ℕ) → bytes ∈ h .sent → Next s (lentGossip h i bytes)
+  next-gossip : {h : LentHouse} (s : Same n h) (i : ℕ) → i < n → (bytes : List ℕ) → bytes ∈ h .sent
+      → Next s (lentGossip h i bytes)
   unfolding lentGossip afterGossip
-  next-gossip {h} s i u bytes x = go (bytes-from (s .house .sent) bytes (subst (λ (l : List (List ℕ)). bytes ∈ l) (s .sent) x))
+  next-gossip {h} s i u bytes x =
+      go (bytes-from (s .house .sent) bytes (subst (λ (l : List (List ℕ)). bytes ∈ l) (s .sent) x))
     where
-      go : ((m : Message) × (m ∈ s .house .sent) × (bytes ≡ bytesOf m)) → Next s (lentGossip h i bytes)
+      go : ((m : Message) × (m ∈ s .house .sent) × (bytes ≡ messageBytes m)) → Next s (lentGossip h i bytes)
       go w =
           let q = ap (gossipOn (h .words i)) (w .2) ∙ heard-sent s i u (w .0) (w .1) in
           record {
             same = record {
               house = afterGossip (s .house) i (w .0);
               run = books.onward (s .run) (books.arrives i u (w .0) (w .1));
-              words = put-words n (h .words) (s .house .book) (s .words) i (gossipOn (h .words i) bytes .words) ((gossipStep (s .house .book i) (w .0)) .book) (ap (λ (o : Lent). o .words) q);
+              words = put-words n (h .words) (s .house .book) (s .words) i (gossipOn (h .words i) bytes .words)
+                  ((gossipStep (s .house .book i) (w .0)) .book) (ap (λ (o : Lent). o .words) q);
               past = put-past n (s .house .book) (s .past) i u ((gossipStep (s .house .book i) (w .0)) .book);
               sent = s .sent;
               history = s .history;
@@ -237,7 +273,9 @@ module _ (n : ℕ) (lo : fewest ≤ n) (hi : n ≤ most) where
   fresh-words : (ws : List ℕ) (i : ℕ) → length ws ≡ bookLong → i < n → openOn ws i n .words ≡ wordsOf (fresh i n)
   unfolding openOn openStops
   fresh-words ws i e u =
-      ap₂ (λ (c d : Bool). openOr ws (wordsOf (fresh i n)) (firstOf ((not c, refusal 11) ∷ (not d, refusal 2) ∷ [])) .words) (is-true (eqb (length ws) bookLong) (eq→eqb (length ws) bookLong e))
+      ap₂ (λ (c d : Bool). openOr ws (wordsOf (fresh i n))
+      (firstOf ((not c, refusal 11) ∷ (not d, refusal 2) ∷ [])) .words)
+      (is-true (eqb (length ws) bookLong) (eq→eqb (length ws) bookLong e))
       (is-true (inRange i n) (range-from i n lo hi u))
 
   same : {h : LentHouse} → LentRun n h → Same n h
@@ -255,24 +293,31 @@ module _ (n : ℕ) (lo : fewest ≤ n) (hi : n ≤ most) where
 
   -- what Permission allows was answered by the book that the slice holds
   asked-book :
-      {h : LentHouse} (s : Same n h) (i : ℕ) → i < n → (bytes : List ℕ) → T (permits (questionOn (h .words i) bytes .reply))
-      → questionOn (h .words i) bytes .reply ≡ answerAt (s .house) i (promptIn (h .words i) bytes) (labelIn (h .words i) bytes)
+      {h : LentHouse} (s : Same n h) (i : ℕ) → i < n → (bytes : List ℕ)
+      → T (permits (questionOn (h .words i) bytes .reply))
+      → questionOn (h .words i) bytes .reply
+      ≡ answerAt (s .house) i (promptIn (h .words i) bytes) (labelIn (h .words i) bytes)
   asked-book {h} s i u bytes y =
       go (readable (questionKind (b .screens)) bytes) refl
-      ∙ ap (λ (x : Book). (ask b (getD (lineOf (questionKind (x .screens)) bytes) 1 0) (stampAt 2 (lineOf (questionKind (x .screens)) bytes))) .reply) (sym (book-of s i u))
+      ∙ ap (λ (x : Book). (ask b (getD (lineOf (questionKind (x .screens)) bytes) 1 0)
+      (stampAt 2 (lineOf (questionKind (x .screens)) bytes))) .reply) (sym (book-of s i u))
     where
       b : Book
       b = s .house .book i
 
       answered : Outcome
-      answered = ask b (getD (lineOf (questionKind (b .screens)) bytes) 1 0) (stampAt 2 (lineOf (questionKind (b .screens)) bytes))
+      answered = ask b (getD (lineOf (questionKind (b .screens)) bytes) 1 0)
+          (stampAt 2 (lineOf (questionKind (b .screens)) bytes))
 
-      comes : (c : Bool) → readable (questionKind (b .screens)) bytes ≡ c → questionOn (h .words i) bytes .reply ≡ cond c answered (record { reply = refusal 1; book = b }) .reply
+      comes : (c : Bool) → readable (questionKind (b .screens)) bytes ≡ c
+          → questionOn (h .words i) bytes .reply ≡ cond c answered (record { reply = refusal 1; book = b }) .reply
       comes c e =
-          ap (λ (w : List ℕ). questionOn w bytes .reply) (s .words i u) ∙ ap (λ (o : Lent). o .reply) (question-on b (sound-of s i u) bytes)
+          ap (λ (w : List ℕ). questionOn w bytes .reply) (s .words i u)
+          ∙ ap (λ (o : Lent). o .reply) (question-on b (sound-of s i u) bytes)
           ∙ ap (λ (d : Bool). cond d answered (record { reply = refusal 1; book = b }) .reply) e
 
-      go : (c : Bool) → readable (questionKind (b .screens)) bytes ≡ c → questionOn (h .words i) bytes .reply ≡ answered .reply
+      go : (c : Bool) → readable (questionKind (b .screens)) bytes ≡ c
+          → questionOn (h .words i) bytes .reply ≡ answered .reply
       go true e = comes true e
       go false e = absurd (subst (λ (r : Reply). T (permits r)) (comes false e) y)
 
@@ -284,19 +329,28 @@ module _ (n : ℕ) (lo : fewest ≤ n) (hi : n ≤ most) where
           record {
             demand = subst (Demand n) (sym (held-same s)) (third-demand n lo hi (s .house) (s .run));
             consent = subst (Consent n) (sym (held-same s)) (no-refused-consent n lo hi (s .house) (s .run));
-            books-sound = λ i u. subst (λ (w : List ℕ). T (lawful w)) (sym (s .words i u)) (sound-lawful (s .house .book i) (sound-of s i u));
+            books-sound = λ i u. subst (λ (w : List ℕ). T (lawful w)) (sym (s .words i u))
+                (sound-lawful (s .house .book i) (sound-of s i u));
             steps = λ h′ st. way st (next s st);
-            refused-only = λ i u bytes x. sent i u bytes (bytes-from (s .house .sent) bytes (subst (λ (l : List (List ℕ)). bytes ∈ l) (s .sent) x));
-            asked = λ i u bytes y. asked-book s i u bytes y ∙ ap (λ (x : House). answerAt x i (promptIn (h .words i) bytes) (labelIn (h .words i) bytes)) (sym (held-same s));
+            refused-only = λ i u bytes x. sent i u bytes
+                (bytes-from (s .house .sent) bytes (subst (λ (l : List (List ℕ)). bytes ∈ l) (s .sent) x));
+            asked = λ i u bytes y. asked-book s i u bytes y
+                ∙ ap (λ (x : House). answerAt x i (promptIn (h .words i) bytes) (labelIn (h .words i) bytes))
+                (sym (held-same s));
           }
         where
           way : {h′ : LentHouse} → LentStep n h h′ → Next s h′ → Step n (held n h) (held n h′) ⊎ (held n h ≡ held n h′)
           way {h′} st w =
-              either (w .way) (λ x. inl (subst (λ (a : House). Step n a (held n h′)) (sym (held-same s)) (subst (Step n (s .house)) (sym (held-same (w .same))) x)))
+              either (w .way) (λ x. inl
+              (subst (λ (a : House). Step n a (held n h′)) (sym (held-same s))
+              (subst (Step n (s .house)) (sym (held-same (w .same))) x)))
               (λ e. inr (held-same s ∙ e ∙ sym (held-same (w .same))))
 
-          sent : (i : ℕ) → i < n → (bytes : List ℕ) → ((m : Message) × (m ∈ s .house .sent) × (bytes ≡ bytesOf m)) → Answered i (messageOf bytes) (gossipOn (h .words i) bytes .reply)
+          sent : (i : ℕ) → i < n → (bytes : List ℕ) → ((m : Message) × (m ∈ s .house .sent) × (bytes ≡ messageBytes m))
+              → HeardAs i (messageOf bytes) (gossipOn (h .words i) bytes .reply)
           sent i u bytes w =
-              subst (λ (x : List ℕ). Answered i (messageOf x) (gossipOn (h .words i) x .reply)) (sym (w .2))
-              (subst (λ (y : Message). Answered i y (gossipOn (h .words i) (bytesOf (w .0)) .reply)) (sym (message-bytes (w .0) (fits-of s (w .0) (w .1))))
-              (subst (λ (o : Lent). Answered i (w .0) (o .reply)) (sym (heard-sent s i u (w .0) (w .1))) (third-demand n lo hi (s .house) (s .run) .refused-only i u (w .0) (w .1))))
+              subst (λ (x : List ℕ). HeardAs i (messageOf x) (gossipOn (h .words i) x .reply)) (sym (w .2))
+              (subst (λ (y : Message). HeardAs i y (gossipOn (h .words i) (messageBytes (w .0)) .reply))
+              (sym (message-bytes (w .0) (fits-of s (w .0) (w .1))))
+              (subst (λ (o : Lent). HeardAs i (w .0) (o .reply)) (sym (heard-sent s i u (w .0) (w .1)))
+              (third-demand n lo hi (s .house) (s .run) .refused-only i u (w .0) (w .1))))

@@ -6,28 +6,32 @@ use mathlib.Core.Logic.{inl, inr, _⊎_, _≢_}
 use mathlib.Core.Bool.{not, Bool, cond}
 use mathlib.Core.List.{[], List, _∷_, List·Memᴰ·cases-cons}
 use lib.Dec.{T}
-use lib.ListN.{getD}
-use Rattle.lists.specs.Facts.{none-in, either, is-false, here, there, _∈_}
-use Rattle.lists.specs.MoreFacts.{same-or-not}
+use lib.ListN.{getD, length}
+use Rattle.lists.specs.TestLaws.{none-in, either, is-false, here, there, _∈_}
+use Rattle.lists.specs.ElementLaws.{same-or-not}
+use Rattle.limits.specs.Limits.{fewest, most}
 use Rattle.stamp.specs.Laws.{zeros-part, part-other, part-merge, Covers}
 use Rattle.stamp.specs.Stamp.{part, Stamp}
-use Rattle.tally.specs.declared.Tap.{Tap}
+use Rattle.tally.specs.Body.{Body, says}
 use Rattle.ledger.specs.LimitLaws.{range-from}
-use Rattle.ledger.specs.Limits.{fewest, most}
 use Rattle.ledger.specs.Message.{Message}
 use Rattle.ledger.specs.Record.{Record, stampOf, mayGo}
 use Rattle.ledger.specs.RecordLaws.{everywhere-at, go-everywhere}
 use Rattle.meaning.specs.AnswerLaws.{ask-keeps}
-use Rattle.meaning.specs.Book.{fresh, known, row, Book}
+use Rattle.meaning.specs.Book.{fresh, known, ready, row, Book}
 use Rattle.meaning.specs.Reply.{taken, Reply, isTaken}
 use Rattle.meaning.specs.SettleLaws.{value-old}
 use Rattle.meaning.specs.BookLaws.{fresh-sound, fresh-known, fresh-row, send-fits}
-use Rattle.meaning.specs.Step.{tapStep, Outcome, newRecord, settle, tapRows, send, gossipStep, gossipRows, newOnes}
-use Rattle.meaning.specs.StepLaws.{tap-out, gossip-out, TapDone, tap-ready, new-origin, tap-now, tap-row, GossipDone, gossip-ready, new-ones, gossip-now, gossip-row, tap-cases, gossip-cases}
-use Rattle.house.specs.House.{openHouse, House, put, grown, tap, Step, afterTap, question, afterQuestion, afterSend, afterGossip, onward, sends, arrives, Run, opened}
+use Rattle.meaning.specs.Step.{tapStep, Outcome, newRecord, ownRows, takeBook, takeOut, send, gossipStep, gossipRows}
+use Rattle.meaning.specs.Step.{newOnes, hearBook, hearOut}
+use Rattle.meaning.specs.StepLaws.{Stopped, TakeDone, take-ready, new-origin, own-now, own-row, GossipDone}
+use Rattle.meaning.specs.StepLaws.{gossip-ready, new-ones, gossip-now, gossip-row, tap-cases, gossip-cases}
+use Rattle.house.specs.House.{openHouse, House, put, grown, tap, Step, afterRequest, afterTap, question}
+use Rattle.house.specs.House.{afterQuestion, afterSend, afterGossip, onward, sends, arrives, Run, opened}
 use Rattle.house.proofs.Invariant.{ScreenOk, Inv, put-either, Onward, knownOf, SentOk, screen-mono, advance, known-grows}
 
-screen-fresh : (n : ℕ) → fewest ≤ n → n ≤ most → (i : ℕ) → i < n → ScreenOk n (λ k. known (fresh k n)) [] [] i (fresh i n)
+screen-fresh : (n : ℕ) → fewest ≤ n → n ≤ most → (i : ℕ) → i < n
+    → ScreenOk n (λ k. known (fresh k n)) [] [] i (fresh i n)
 unfolding fresh
 screen-fresh n lo hi i h =
     record {
@@ -52,12 +56,18 @@ start n lo hi =
       screens = λ i h. screen-fresh n lo hi i h;
       messages = λ m u. none-in u;
       chain = λ m m′ u. none-in u;
-      taken = record { one = λ r s m. none-in m; obey = λ r m. none-in m; owned = λ r m. none-in m; some = λ k q l u. absurd (omega (arith, fresh-known k n k)) };
+      taken = record {
+        one = λ r s m. none-in m;
+        obey = λ r m. none-in m;
+        owned = λ r m. none-in m;
+        some = λ k q l u. absurd (omega (arith, fresh-known k n k));
+      };
     }
 
 -- a stopped step, and a question, leave the house as it was
 put-same : (books : ℕ → Book) (i : ℕ) → put books i (books i) ≡ books
-put-same books i = fun-ext (λ k. either (put-either books i (books i) k) (λ e. e .1 ∙ ap books (sym (e .0))) (λ e. e .1))
+put-same books i = fun-ext
+    (λ k. either (put-either books i (books i) k) (λ e. e .1 ∙ ap books (sym (e .0))) (λ e. e .1))
 
 grown-not : (r : Reply) (x : Record) (hs : List Record) → T (not (isTaken r)) → grown r x hs ≡ hs
 unfolding grown
@@ -70,61 +80,91 @@ grown-taken s x hs = refl
 abbrev pub houseOf : (ℕ → Book) → List Message → List Record → House
 houseOf books sent history = record { book = books; sent = sent; history = history }
 
-pub tap-stays : (h : House) (i : ℕ) (t : Tap) (l : Stamp) (r : Reply) → T (not (isTaken r)) → tapStep (h .book i) t l ≡ record { reply = r; book = h .book i } → afterTap h i t l ≡ h
-unfolding afterTap
-tap-stays h i t l r n e =
-    ap (λ (o : Outcome). houseOf (put (h .book) i (o .book)) (h .sent) (grown (o .reply) (newRecord (h .book i) t l) (h .history))) e
-    ∙ ap₂ (λ (books : ℕ → Book) (hs : List Record). houseOf books (h .sent) hs) (put-same (h .book) i) (grown-not r (newRecord (h .book i) t l) (h .history) n)
+-- a request that is stopped, and one that is taken
+request-stays :
+    (h : House) (i : ℕ) (x : Record) (o : Outcome) → Stopped (h .book i) o → afterRequest h i o x ≡ h
+unfolding afterRequest
+request-stays h i x o w =
+    ap (λ (z : Outcome). houseOf (put (h .book) i (z .book)) (h .sent) (grown (z .reply) x (h .history))) (w .2)
+    ∙ ap₂ (λ (books : ℕ → Book) (hs : List Record). houseOf books (h .sent) hs) (put-same (h .book) i)
+    (grown-not (w .0) x (h .history) (w .1))
 
-pub tap-goes :
-    (h : House) (i : ℕ) (t : Tap) (l : Stamp) → tapStep (h .book i) t l ≡ tap-out (h .book i) t l
-    → afterTap h i t l ≡ houseOf (put (h .book) i (settle (h .book i) (tapRows (h .book i)) (newRecord (h .book i) t l ∷ []))) (h .sent) (newRecord (h .book i) t l ∷ h .history)
-unfolding afterTap
-tap-goes h i t l e =
-    ap (λ (o : Outcome). houseOf (put (h .book) i (o .book)) (h .sent) (grown (o .reply) (newRecord (h .book i) t l) (h .history))) e
-    ∙ ap (λ (hs : List Record). houseOf (put (h .book) i (settle (h .book i) (tapRows (h .book i)) (newRecord (h .book i) t l ∷ []))) (h .sent) hs) (grown-taken (stampOf (newRecord (h .book i) t l)) (newRecord (h .book i) t l) (h .history))
+abbrev pub taken-house : House → ℕ → Body → Stamp → House
+taken-house h i x l =
+    record {
+      book = put (h .book) i (takeBook (h .book i) x l);
+      sent = h .sent;
+      history = newRecord (h .book i) x l ∷ h .history;
+    }
+
+request-goes :
+    (h : House) (i : ℕ) (x : Body) (l : Stamp) (o : Outcome) → o ≡ takeOut (h .book i) x l
+    → afterRequest h i o (newRecord (h .book i) x l) ≡ taken-house h i x l
+unfolding afterRequest
+request-goes h i x l o e =
+    let r : Record = newRecord (h .book i) x l in
+    ap (λ (z : Outcome). houseOf (put (h .book) i (z .book)) (h .sent) (grown (z .reply) r (h .history))) e
+    ∙ ap (λ (hs : List Record). houseOf (put (h .book) i (takeBook (h .book i) x l)) (h .sent) hs)
+    (grown-taken (stampOf r) r (h .history))
 
 pub question-stays : (h : House) (i p : ℕ) (l : Stamp) → afterQuestion h i p l ≡ h
 unfolding afterQuestion
-question-stays h i p l = ap (λ (books : ℕ → Book). houseOf books (h .sent) (h .history)) (ap (put (h .book) i) (ask-keeps (h .book i) p l) ∙ put-same (h .book) i)
+question-stays h i p l =
+    ap (λ (books : ℕ → Book). houseOf books (h .sent) (h .history))
+    (ap (put (h .book) i) (ask-keeps (h .book i) p l) ∙ put-same (h .book) i)
 
-pub send-stays : (h : House) (i : ℕ) → (afterSend h i) .book ≡ h .book
-unfolding afterSend
-send-stays h i = refl
-
-pub gossip-stays : (h : House) (i : ℕ) (m : Message) (r : Reply) → gossipStep (h .book i) m ≡ record { reply = r; book = h .book i } → afterGossip h i m ≡ h
+pub gossip-stays : (h : House) (i : ℕ) (m : Message) (r : Reply)
+    → gossipStep (h .book i) m ≡ record { reply = r; book = h .book i } → afterGossip h i m ≡ h
 unfolding afterGossip
 gossip-stays h i m r e =
-    ap (λ (o : Outcome). houseOf (put (h .book) i (o .book)) (h .sent) (h .history)) e ∙ ap (λ (books : ℕ → Book). houseOf books (h .sent) (h .history)) (put-same (h .book) i)
+    ap (λ (o : Outcome). houseOf (put (h .book) i (o .book)) (h .sent) (h .history)) e
+    ∙ ap (λ (books : ℕ → Book). houseOf books (h .sent) (h .history)) (put-same (h .book) i)
 
 pub gossip-goes :
-    (h : House) (i : ℕ) (m : Message) → gossipStep (h .book i) m ≡ gossip-out (h .book i) m
-    → afterGossip h i m ≡ houseOf (put (h .book) i (settle (h .book i) (gossipRows (h .book i) m) (newOnes (h .book i) m))) (h .sent) (h .history)
+    (h : House) (i : ℕ) (m : Message) → gossipStep (h .book i) m ≡ hearOut (h .book i) m
+    → afterGossip h i m ≡ houseOf (put (h .book) i (hearBook (h .book i) m)) (h .sent) (h .history)
 unfolding afterGossip
 gossip-goes h i m e = ap (λ (o : Outcome). houseOf (put (h .book) i (o .book)) (h .sent) (h .history)) e
 
--- a tap that is taken
-pub tap-onward :
-    (n : ℕ) (h : House) → Inv n h → (i : ℕ) → i < n → (t : Tap) (l : Stamp) → TapDone (h .book i) t l
-    → Onward n h i (tapRows (h .book i)) (newRecord (h .book i) t l ∷ []) (newRecord (h .book i) t l ∷ h .history)
-tap-onward n h v i u t l d =
+-- a body that is taken
+pub take-onward :
+    (n : ℕ) (h : House) → Inv n h → (i : ℕ) → i < n → (x : Body) (l : Stamp) → TakeDone (h .book i) x l
+    → Onward n h i (ownRows (h .book i)) (newRecord (h .book i) x l ∷ []) (newRecord (h .book i) x l ∷ h .history)
+take-onward n h v i u x l d =
     record {
       here-in = u;
-      ready = tap-ready b t l d;
+      ready = take-ready b x l d;
       grow = λ r m. there m;
-      come = λ r m. either (List·Memᴰ·cases-cons m) (λ e. subst (λ (x : Record). x ∈ newRecord b t l ∷ h .history) (sym e) here) (λ x. none-in x);
-      from = λ r m. either (List·Memᴰ·cases-cons m) (λ e. inr (subst (λ (x : Record). x ∈ newRecord b t l ∷ []) (sym e) here, ap (λ (x : Record). x .origin) e ∙ new-origin b t l ∙ ok .mine)) (λ x. inl x);
-      others-most = λ k x d′. omega (arith, ap (λ (s : Stamp). part s k) (tap-now b t l d), part-other (known b) (b .me) (suc (part (known b) (b .me))) k (λ e. d′ (e ∙ ok .mine)), ok .own-most k x);
-      rows-true = λ j x d′ k. either (tap-row b t l d j) (λ e. absurd (d′ (e .0 ∙ ok .mine))) (λ e. omega (arith, ap (λ (s : Stamp). part s k) e, ok .rows-true j x k));
-      rows-sent = λ j x d′. either (tap-row b t l d j) (λ e. absurd (d′ (e .0 ∙ ok .mine)))
-          (λ e. either (ok .rows-sent j x d′) (λ z. inl (λ k. ap (λ (s : Stamp). part s k) e ∙ z k)) (λ w. inr (w .0, w .1, w .2, w .3 ∙ sym e)));
+      come = λ r m.
+          either (List·Memᴰ·cases-cons m) (λ e. subst (λ (z : Record). z ∈ rec ∷ h .history) (sym e) here)
+          (λ z. none-in z);
+      from = λ r m.
+          either (List·Memᴰ·cases-cons m)
+          (λ e. inr (subst (λ (z : Record). z ∈ rec ∷ []) (sym e) here, ap (λ (z : Record). z .origin) e ∙ rec-mine))
+          (λ z. inl z);
+      others-most = λ k y d′.
+          let other = part-other (known b) (b .me) (suc (part (known b) (b .me))) k (λ e. d′ (e ∙ ok .mine)) in
+          omega (arith, ap (λ (s : Stamp). part s k) (own-now b x l d), other, ok .own-most k y);
+      rows-true = λ j y d′ k.
+          either (own-row b x l d j) (λ e. absurd (d′ (e .0 ∙ ok .mine)))
+          (λ e. omega (arith, ap (λ (s : Stamp). part s k) e, ok .rows-true j y k));
+      rows-sent = λ j y d′.
+          either (own-row b x l d j) (λ e. absurd (d′ (e .0 ∙ ok .mine)))
+          (λ e. either (ok .rows-sent j y d′) (λ z. inl (λ k. ap (λ (s : Stamp). part s k) e ∙ z k))
+          (λ w. inr (w .0, w .1, w .2, w .3 ∙ sym e)));
     }
   where
     b : Book
     b = h .book i
 
+    rec : Record
+    rec = newRecord b x l
+
     ok : ScreenOk n (knownOf h) (h .sent) (h .history) i b
     ok = v .screens i u
+
+    rec-mine : rec .origin ≡ i
+    rec-mine = new-origin b x l ∙ ok .mine
 
 -- a message that is taken
 pub gossip-onward :
@@ -137,12 +177,26 @@ gossip-onward n h v i u m x d =
       grow = λ r y. y;
       come = λ r y. sent .only-taken r (new-ones b m r y .0);
       from = λ r y. inl y;
-      others-most = λ k y d′. omega (arith, ap (λ (s : Stamp). part s k) (gossip-now b m d), part-merge (known b) (m .stamp) k, ok .own-most k y, sent .old k, v .screens (m .sender) (sent .from) .own-most k y);
+      others-most = λ k y d′. omega (
+        arith,
+        ap (λ (s : Stamp). part s k) (gossip-now b m d),
+        part-merge (known b) (m .stamp) k,
+        ok .own-most k y,
+        sent .old k,
+        v .screens (m .sender) (sent .from) .own-most k y,
+      );
       rows-true = λ j y d′ k. either (gossip-row b m d j) (λ e. absurd (d′ (e .0 ∙ ok .mine)))
-          (λ w. either w (λ e. omega (arith, ap (λ (s : Stamp). part s k) (e .1), sent .old k, ap (λ (z : ℕ). part (knownOf h z) k) (e .0))) (λ e. omega (arith, ap (λ (s : Stamp). part s k) e, ok .rows-true j y k)));
+          (λ w. either w (λ e. omega (
+            arith,
+            ap (λ (s : Stamp). part s k) (e .1),
+            sent .old k,
+            ap (λ (z : ℕ). part (knownOf h z) k) (e .0),
+          ))
+          (λ e. omega (arith, ap (λ (s : Stamp). part s k) e, ok .rows-true j y k)));
       rows-sent = λ j y d′. either (gossip-row b m d j) (λ e. absurd (d′ (e .0 ∙ ok .mine)))
           (λ w. either w (λ e. inr (m, x, sym (e .0), sym (e .1)))
-          (λ e. either (ok .rows-sent j y d′) (λ z. inl (λ k. ap (λ (s : Stamp). part s k) e ∙ z k)) (λ z. inr (z .0, z .1, z .2, z .3 ∙ sym e))));
+          (λ e. either (ok .rows-sent j y d′) (λ z. inl (λ k. ap (λ (s : Stamp). part s k) e ∙ z k))
+          (λ z. inr (z .0, z .1, z .2, z .3 ∙ sym e))));
     }
   where
     b : Book
@@ -169,12 +223,13 @@ rows-true-at b j s c = c
 
 -- a record that may go is known by every screen
 pub gone-known :
-    (n : ℕ) (h : House) → Inv n h → (i : ℕ) → i < n → (r : Record) → T (mayGo (known (h .book i)) ((h .book i) .table) r)
+    (n : ℕ) (h : House) → Inv n h → (i : ℕ) → i < n
+    → (r : Record) → T (mayGo (ready (h .book i)) ((h .book i) .table) r)
     → (k : ℕ) → k < n → r .number ≤ part (knownOf h k) (r .origin)
 gone-known n h v i u r g k l =
     omega (
       arith,
-      everywhere-at (b .table) (r .origin) (r .number) (go-everywhere (known b) (b .table) r g) k (omega (arith, ok .book-sound .rows, ok .size)),
+      everywhere-at (b .table) (r .origin) (r .number) (go-everywhere (ready b) (b .table) r g) k rows,
       rows-true-at b k (knownOf h k) (ok .rows-true k l) (r .origin),
     )
   where
@@ -183,6 +238,9 @@ gone-known n h v i u r g k l =
 
     ok : ScreenOk n (knownOf h) (h .sent) (h .history) i b
     ok = v .screens i u
+
+    rows : k < length (b .table)
+    rows = omega (arith, ok .book-sound .rows, ok .size)
 
 send-ok : (n : ℕ) (h : House) → Inv n h → (i : ℕ) → i < n → SentOk n (knownOf h) (h .history) (send (h .book i))
 unfolding send
@@ -204,23 +262,29 @@ unfolding afterSend
 send-inv n h v i u =
     record {
       screens = λ j l.
-          screen-mono n (knownOf h) (knownOf h) (h .sent) (send (h .book i) ∷ h .sent) (h .history) (h .history) j (h .book j) (v .screens j l) (λ k x c. omega arith) (λ m x. there x) (λ r x. x) (λ r x. inl x);
-      messages = λ m x. either (List·Memᴰ·cases-cons x) (λ e. subst (λ (y : Message). SentOk n (knownOf h) (h .history) y) (sym e) (send-ok n h v i u)) (λ y. v .messages m y);
+          screen-mono n (knownOf h) (knownOf h) (h .sent) (send (h .book i) ∷ h .sent) (h .history) (h .history) j
+          (h .book j) (v .screens j l) (λ k x c. omega arith) (λ m x. there x) (λ r x. x) (λ r x. inl x);
+      messages = λ m x. either (List·Memᴰ·cases-cons x)
+          (λ e. subst (λ (y : Message). SentOk n (knownOf h) (h .history) y) (sym e) (send-ok n h v i u))
+          (λ y. v .messages m y);
       chain = λ m m′ x y e. link m m′ (List·Memᴰ·cases-cons x) (List·Memᴰ·cases-cons y) e;
       taken = v .taken;
     }
   where
-    covered : (m m′ : Message) → m ≡ send (h .book i) → m′ ∈ h .sent → m .sender ≡ m′ .sender → Covers (m .stamp) (m′ .stamp)
+    covered : (m m′ : Message) → m ≡ send (h .book i) → m′ ∈ h .sent → m .sender ≡ m′ .sender
+        → Covers (m .stamp) (m′ .stamp)
     covered m m′ e x f k =
         omega (
           arith,
           v .messages m′ x .old k,
           send-stamp (h .book i) k,
           ap (λ (y : Message). part (y .stamp) k) e,
-          ap (λ (j : ℕ). part (knownOf h j) k) (sym f ∙ ap (λ (y : Message). y .sender) e ∙ send-from (h .book i) ∙ v .screens i u .mine),
+          ap (λ (j : ℕ). part (knownOf h j) k)
+              (sym f ∙ ap (λ (y : Message). y .sender) e ∙ send-from (h .book i) ∙ v .screens i u .mine),
         )
 
-    link : (m m′ : Message) → (m ≡ send (h .book i)) ⊎ (m ∈ h .sent) → (m′ ≡ send (h .book i)) ⊎ (m′ ∈ h .sent) → m .sender ≡ m′ .sender → Covers (m .stamp) (m′ .stamp) ⊎ Covers (m′ .stamp) (m .stamp)
+    link : (m m′ : Message) → (m ≡ send (h .book i)) ⊎ (m ∈ h .sent) → (m′ ≡ send (h .book i)) ⊎ (m′ ∈ h .sent)
+        → m .sender ≡ m′ .sender → Covers (m .stamp) (m′ .stamp) ⊎ Covers (m′ .stamp) (m .stamp)
     link m m′ (inl p) (inl q) e = inl (λ k. omega (arith, ap (λ (y : Message). part (y .stamp) k) (p ∙ sym q)))
     link m m′ (inl p) (inr y) e = inl (covered m m′ p y e)
     link m m′ (inr x) (inl q) e = inr (covered m′ m q x (sym e))
@@ -230,26 +294,42 @@ send-inv n h v i u =
 pub data Course (n : ℕ) (h : House) : House → Type 0 where
   stays : Course n h h
   sent-one : (i : ℕ) → i < n → Course n h (afterSend h i)
-  tap-taken : (i : ℕ) → i < n → (t : Tap) (l : Stamp) → TapDone (h .book i) t l
-      → Course n h (houseOf (put (h .book) i (settle (h .book i) (tapRows (h .book i)) (newRecord (h .book i) t l ∷ []))) (h .sent) (newRecord (h .book i) t l ∷ h .history))
-  gossip-taken : (i : ℕ) → i < n → (m : Message) → m ∈ h .sent → GossipDone (h .book i) m
-      → Course n h (houseOf (put (h .book) i (settle (h .book i) (gossipRows (h .book i) m) (newOnes (h .book i) m))) (h .sent) (h .history))
+  took :
+      (i : ℕ) → i < n → (x : Body) (l : Stamp) → TakeDone (h .book i) x l → Course n h (taken-house h i x l)
+  heard :
+      (i : ℕ) → i < n → (m : Message) → m ∈ h .sent → GossipDone (h .book i) m
+      → Course n h (houseOf (put (h .book) i (hearBook (h .book i) m)) (h .sent) (h .history))
+
+-- any request is stopped or taken
+request :
+    (n : ℕ) {h : House} (i : ℕ) → i < n → (x : Body) (l : Stamp) (o : Outcome)
+    → Stopped (h .book i) o ⊎ (TakeDone (h .book i) x l × (o ≡ takeOut (h .book i) x l))
+    → Course n h (afterRequest h i o (newRecord (h .book i) x l))
+request n {h} i u x l o c =
+    either c
+    (λ w. subst (λ (z : House). Course n h z) (sym (request-stays h i (newRecord (h .book i) x l) o w)) stays)
+    (λ w. subst (λ (z : House). Course n h z) (sym (request-goes h i x l o (w .1))) (took i u x l (w .0)))
 
 pub course : (n : ℕ) {h h′ : House} → Step n h h′ → Course n h h′
-course n {h} (tap i u t l) =
-    either (tap-cases (h .book i) t l) (λ w. subst (λ (x : House). Course n h x) (sym (tap-stays h i t l (w .0) (w .1) (w .2))) stays)
-    (λ w. subst (λ (x : House). Course n h x) (sym (tap-goes h i t l (w .1))) (tap-taken i u t l (w .0)))
+unfolding afterTap
+course n {h} (tap i u t l) = request n i u (says t) l (tapStep (h .book i) t l) (tap-cases (h .book i) t l)
 course n {h} (question i u p l) = subst (λ (x : House). Course n h x) (sym (question-stays h i p l)) stays
 course n (sends i u) = sent-one i u
 course n {h} (arrives i u m x) =
-    either (gossip-cases (h .book i) m) (λ w. subst (λ (y : House). Course n h y) (sym (gossip-stays h i m (w .0) (w .2))) stays)
-    (λ w. subst (λ (y : House). Course n h y) (sym (gossip-goes h i m (w .1))) (gossip-taken i u m x (w .0)))
+    either (gossip-cases (h .book i) m)
+    (λ w. subst (λ (y : House). Course n h y) (sym (gossip-stays h i m (w .0) (w .2))) stays)
+    (λ w. subst (λ (y : House). Course n h y) (sym (gossip-goes h i m (w .1))) (heard i u m x (w .0)))
 
 course-inv : (n : ℕ) {h h′ : House} → Inv n h → Course n h h′ → Inv n h′
+unfolding takeBook hearBook
 course-inv n v stays = v
 course-inv n {h} v (sent-one i u) = send-inv n h v i u
-course-inv n {h} v (tap-taken i u t l d) = advance n h v i (tapRows (h .book i)) (newRecord (h .book i) t l ∷ []) (newRecord (h .book i) t l ∷ h .history) (tap-onward n h v i u t l d)
-course-inv n {h} v (gossip-taken i u m x d) = advance n h v i (gossipRows (h .book i) m) (newOnes (h .book i) m) (h .history) (gossip-onward n h v i u m x d)
+course-inv n {h} v (took i u x l d) =
+    let new : Record = newRecord (h .book i) x l in
+    advance n h v i (ownRows (h .book i)) (new ∷ []) (new ∷ h .history) (take-onward n h v i u x l d)
+course-inv n {h} v (heard i u m x d) =
+    let w = gossip-onward n h v i u m x d in
+    advance n h v i (gossipRows (h .book i) m) (newOnes (h .book i) m) (h .history) w
 
 pub step-inv : (n : ℕ) {h h′ : House} → Inv n h → Step n h h′ → Inv n h′
 step-inv n v s = course-inv n v (course n s)
@@ -260,31 +340,44 @@ run-inv n lo hi (onward r s) = step-inv n (run-inv n lo hi r) s
 
 -- known stamps only rise
 course-rise : (n : ℕ) {h h′ : House} → Inv n h → Course n h h′ → (k : ℕ) → k < n → Covers (knownOf h′ k) (knownOf h k)
-unfolding afterSend
+unfolding afterSend takeBook hearBook
 course-rise n v stays k y = λ c. omega arith
 course-rise n v (sent-one i u) k y = λ c. omega arith
-course-rise n {h} v (tap-taken i u t l d) k y = known-grows n h v i (tapRows (h .book i)) (newRecord (h .book i) t l ∷ []) (newRecord (h .book i) t l ∷ h .history) (tap-onward n h v i u t l d) k y
-course-rise n {h} v (gossip-taken i u m x d) k y = known-grows n h v i (gossipRows (h .book i) m) (newOnes (h .book i) m) (h .history) (gossip-onward n h v i u m x d) k y
+course-rise n {h} v (took i u x l d) k y =
+    let new : Record = newRecord (h .book i) x l in
+    known-grows n h v i (ownRows (h .book i)) (new ∷ []) (new ∷ h .history) (take-onward n h v i u x l d) k y
+course-rise n {h} v (heard i u m x d) k y =
+    let w = gossip-onward n h v i u m x d in
+    known-grows n h v i (gossipRows (h .book i) m) (newOnes (h .book i) m) (h .history) w k y
 
 pub step-rise : (n : ℕ) {h h′ : House} → Inv n h → Step n h h′ → (k : ℕ) → k < n → Covers (knownOf h′ k) (knownOf h k)
 step-rise n v s k y = course-rise n v (course n s) k y
 
 -- value stamps only rise
-put-rise : (books : ℕ → Book) (i : ℕ) (b : Book) → Covers (b .value) ((books i) .value) → (k : ℕ) → Covers ((put books i b k) .value) ((books k) .value)
+put-rise : (books : ℕ → Book) (i : ℕ) (b : Book) → Covers (b .value) ((books i) .value) → (k : ℕ)
+    → Covers ((put books i b k) .value) ((books k) .value)
 put-rise books i b c k x =
-    either (put-either books i b k) (λ e. omega (arith, c x, ap (λ (y : Book). part (y .value) x) (e .1), ap (λ (j : ℕ). part ((books j) .value) x) (e .0)))
+    either (put-either books i b k)
+    (λ e. omega (
+      arith,
+      c x,
+      ap (λ (y : Book). part (y .value) x) (e .1),
+      ap (λ (j : ℕ). part ((books j) .value) x) (e .0),
+    ))
     (λ e. omega (arith, ap (λ (y : Book). part (y .value) x) (e .1)))
 
 course-value : (n : ℕ) {h h′ : House} → Course n h h′ → (k : ℕ) → Covers ((h′ .book k) .value) ((h .book k) .value)
-unfolding afterSend
+unfolding afterSend takeBook hearBook
 course-value n stays k = λ c. omega arith
 course-value n (sent-one i u) k = λ c. omega arith
-course-value n {h} (tap-taken i u t l d) k =
-    put-rise (h .book) i (settle (h .book i) (tapRows (h .book i)) (newRecord (h .book i) t l ∷ []))
-    (value-old (h .book i) (tapRows (h .book i)) (newRecord (h .book i) t l ∷ []) (d .sound-before) (tap-ready (h .book i) t l d)) k
-course-value n {h} (gossip-taken i u m x d) k =
-    put-rise (h .book) i (settle (h .book i) (gossipRows (h .book i) m) (newOnes (h .book i) m))
-    (value-old (h .book i) (gossipRows (h .book i) m) (newOnes (h .book i) m) (d .sound-before) (gossip-ready (h .book i) m d)) k
+course-value n {h} (took i u x l d) k =
+    let b : Book = h .book i in
+    put-rise (h .book) i (takeBook b x l)
+    (value-old b (ownRows b) (newRecord b x l ∷ []) (d .sound-before) (take-ready b x l d)) k
+course-value n {h} (heard i u m x d) k =
+    let b : Book = h .book i in
+    put-rise (h .book) i (hearBook b m)
+    (value-old b (gossipRows b m) (newOnes b m) (d .sound-before) (gossip-ready b m d)) k
 
 pub step-value : (n : ℕ) {h h′ : House} → Step n h h′ → (k : ℕ) → Covers ((h′ .book k) .value) ((h .book k) .value)
 step-value n s k = course-value n (course n s) k
@@ -293,25 +386,29 @@ step-value n s k = course-value n (course n s) k
 put-other : (books : ℕ → Book) (i : ℕ) (b : Book) (j : ℕ) → j ≢ i → put books i b j ≡ books j
 put-other books i b j d = either (put-either books i b j) (λ e. absurd (d (e .0))) (λ e. e .1)
 
-moved : (books : ℕ → Book) (j : ℕ) (b : Book) (i : ℕ) → (put books j b i ≡ books i) ⊎ ((k : ℕ) → k ≢ i → put books j b k ≡ books k)
-moved books j b i = either (same-or-not i j) (λ e. inr (λ k d. put-other books j b k (λ f. d (f ∙ sym e)))) (λ d. inl (put-other books j b i d))
+moved : (books : ℕ → Book) (j : ℕ) (b : Book) (i : ℕ)
+    → (put books j b i ≡ books i) ⊎ ((k : ℕ) → k ≢ i → put books j b k ≡ books k)
+moved books j b i = either (same-or-not i j) (λ e. inr (λ k d. put-other books j b k (λ f. d (f ∙ sym e))))
+    (λ d. inl (put-other books j b i d))
 
-course-moves : (n : ℕ) {h h′ : House} → Course n h h′ → (i : ℕ) → (h′ .book i ≡ h .book i) ⊎ ((j : ℕ) → j ≢ i → h′ .book j ≡ h .book j)
+course-moves : (n : ℕ) {h h′ : House} → Course n h h′ → (i : ℕ)
+    → (h′ .book i ≡ h .book i) ⊎ ((j : ℕ) → j ≢ i → h′ .book j ≡ h .book j)
 unfolding afterSend
 course-moves n stays i = inl refl
 course-moves n (sent-one j u) i = inl refl
-course-moves n {h} (tap-taken j u t l d) i = moved (h .book) j (settle (h .book j) (tapRows (h .book j)) (newRecord (h .book j) t l ∷ [])) i
-course-moves n {h} (gossip-taken j u m x d) i = moved (h .book) j (settle (h .book j) (gossipRows (h .book j) m) (newOnes (h .book j) m)) i
+course-moves n {h} (took j u x l d) i = moved (h .book) j (takeBook (h .book j) x l) i
+course-moves n {h} (heard j u m x d) i = moved (h .book) j (hearBook (h .book j) m) i
 
-pub step-moves : (n : ℕ) {h h′ : House} → Step n h h′ → (i : ℕ) → (h′ .book i ≡ h .book i) ⊎ ((j : ℕ) → j ≢ i → h′ .book j ≡ h .book j)
+pub step-moves : (n : ℕ) {h h′ : House} → Step n h h′ → (i : ℕ)
+    → (h′ .book i ≡ h .book i) ⊎ ((j : ℕ) → j ≢ i → h′ .book j ≡ h .book j)
 step-moves n s i = course-moves n (course n s) i
 
 course-grows : (n : ℕ) {h h′ : House} → Course n h h′ → (r : Record) → r ∈ h .history → r ∈ h′ .history
 unfolding afterSend
 course-grows n stays r m = m
 course-grows n (sent-one i u) r m = m
-course-grows n (tap-taken i u t l d) r m = there m
-course-grows n (gossip-taken i u y x d) r m = m
+course-grows n (took i u x l d) r m = there m
+course-grows n (heard i u y x d) r m = m
 
 pub step-grows : (n : ℕ) {h h′ : House} → Step n h h′ → (r : Record) → r ∈ h .history → r ∈ h′ .history
 step-grows n s r m = course-grows n (course n s) r m

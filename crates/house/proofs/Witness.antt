@@ -1,19 +1,21 @@
--- A run that uses every step and ends in Permission's yes on a screen that got the tap by gossip, so the theorems on runs speak of
+-- A run that uses every step and ends in Permission's yes on a screen that got the tap by gossip, so the theorems on
+-- runs speak of
 -- something; and its end in a no, once a decline of the same showing has arrived there too. Assumes nothing.
 use native.Mathlib.Omega.{arith}
 use mathlib.Core.Path.{_≡_, refl}
 use mathlib.Core.Bool.{not}
 use mathlib.Core.List.{_∷_}
 use lib.Dec.{T}
-use Rattle.lists.specs.Facts.{here}
-use Rattle.tally.specs.Limits.{accept, decline}
+use Rattle.lists.specs.TestLaws.{here}
+use Rattle.limits.specs.Limits.{accept, decline}
 use Rattle.tally.specs.declared.Tap.{Tap}
 use Rattle.ledger.specs.Cases.{at}
 use Rattle.meaning.specs.Cases.{tapped, says}
 use Rattle.meaning.specs.Reply.{figures, permits}
 use Rattle.meaning.specs.Step.{send}
 use Rattle.house.specs.Consent.{answerAt}
-use Rattle.house.specs.House.{House, openHouse, put, grown, afterTap, afterQuestion, afterSend, afterGossip, tap, question, sends, arrives, Run, opened, onward}
+use Rattle.house.specs.House.{House, openHouse, put, grown, afterRequest, afterTap, afterQuestion, afterSend}
+use Rattle.house.specs.House.{afterGossip, tap, question, sends, arrives, Run, opened, onward}
 
 -- two taps of one showing of prompt 7, the child's seat camera
 childs : Tap
@@ -64,13 +66,14 @@ no-run =
 
 -- yes on screen 1 where the label is the accept's stamp, and where it is zeros
 pub yes-said : T (permits (answerAt yesHouse 1 7 (at 1 0 0))) × T (permits (answerAt yesHouse 1 7 (at 0 0 0)))
-unfolding says tapped childs openHouse put grown afterTap afterQuestion afterSend afterGossip tapped0 asked0 sent0 yesHouse
+unfolding says tapped childs openHouse put grown afterRequest afterTap afterQuestion afterSend afterGossip tapped0
+    asked0 sent0 yesHouse
 yes-said = (tt, tt)
 
 -- Contested there, 1 and 1, and so no at both labels
 pub no-said :
     (figures (answerAt noHouse 1 7 (at 0 0 0)) ≡ 7 ∷ 3 ∷ 1 ∷ 1 ∷ 1 ∷ at 1 0 1)
     × T (not (permits (answerAt noHouse 1 7 (at 1 0 0)))) × T (not (permits (answerAt noHouse 1 7 (at 0 0 0))))
-unfolding says tapped childs mothers openHouse put grown afterTap afterQuestion afterSend afterGossip tapped0 asked0 sent0 yesHouse
-    tapped2 sent2 noHouse
+unfolding says tapped childs mothers openHouse put grown afterRequest afterTap afterQuestion afterSend afterGossip
+    tapped0 asked0 sent0 yesHouse tapped2 sent2 noHouse
 no-said = (refl, tt, tt)

@@ -1,4 +1,5 @@
--- The runs of a house that a host drives by `answer` alone, each step one call with any bytes and any output, and what holds of them.
+-- The runs of a house that a host drives by `answer` alone, each step one call with any bytes and any output, and what
+-- holds of them.
 -- Assumes nothing.
 use Prim.Native.Nat.{ℕ, _<_}
 use mathlib.Core.Path.{_≡_}
@@ -7,13 +8,14 @@ use mathlib.Core.Bool.{cond}
 use mathlib.Core.List.{List, _∷_, List·Memᴰ}
 use lib.Dec.{T, eqb}
 use lib.ListN.{length, take}
-use Rattle.layout.specs.Words.{bookLong}
-use Rattle.gossip.specs.Message.{wellFormed}
-use Rattle.answering.specs.Answer.{kindSaid, answerOn}
+use Rattle.lent.specs.Words.{bookLong}
+use Rattle.message.specs.Message.{wellFormed}
+use Rattle.answer.specs.Answer.{kindSaid, answerOn}
 use Rattle.house.specs.House.{put, Step}
 use Rattle.house.specs.LentHouse.{LentHouse, openLent, recordFor, held, LentDemand}
 
--- after a call on screen i: a reply of kind 1 is gossip that the screen has sent, a reply of kind 5 says that the tap is taken
+-- after a call on screen i: a reply of kind 1 is gossip that the screen has sent, a reply of kind 5 says that the tap
+-- is taken
 unfoldable pub afterCall : LentHouse → ℕ → List ℕ → List ℕ → LentHouse
 afterCall h i bytes out =
     let a = answerOn (h .words i) bytes out in
@@ -23,7 +25,8 @@ afterCall h i bytes out =
       history = cond (eqb (kindSaid a) 5) (recordFor (h .words i) bytes ∷ h .history) (h .history);
     }
 
--- One call: any bytes at any screen, damaged and truncated ones too, and any output. Only well-formed gossip has to be as it was sent.
+-- One call: any bytes at any screen, damaged and truncated ones too, and any output. Only well-formed gossip has to be
+-- as it was sent.
 pub data Call (n : ℕ) : LentHouse → LentHouse → Type 0 where
   call :
       {h : LentHouse} (i : ℕ) → i < n → (bytes out : List ℕ) → (T (wellFormed bytes) → List·Memᴰ bytes (h .sent))
@@ -37,5 +40,6 @@ pub data HostRun (n : ℕ) : LentHouse → Type 0 where
 pub record HostDemand (n : ℕ) (h : LentHouse) : Type 0 where
   -- all that holds of lent slices and bytes
   pub lent : LentDemand n h
-  -- a call is a step of the books that the slices hold, or leaves the house as it was: so what is said of steps is said of calls
+  -- a call is a step of the books that the slices hold, or leaves the house as it was: so what is said of steps is said
+  -- of calls
   pub calls : (h′ : LentHouse) → Call n h h′ → Step n (held n h) (held n h′) ⊎ (held n h ≡ held n h′)

@@ -4,12 +4,13 @@ use mathlib.Core.Bool.{cond}
 use mathlib.Core.List.{List, [], _∷_, List·Memᴰ}
 use lib.Dec.{eqb}
 use Rattle.stamp.specs.Stamp.{Stamp}
+use Rattle.tally.specs.Body.{says}
 use Rattle.tally.specs.declared.Tap.{Tap}
 use Rattle.ledger.specs.Message.{Message}
 use Rattle.ledger.specs.Record.{Record}
 use Rattle.meaning.specs.Book.{Book, fresh}
 use Rattle.meaning.specs.Reply.{Reply, isTaken}
-use Rattle.meaning.specs.Step.{tapStep, newRecord, ask, send, gossipStep}
+use Rattle.meaning.specs.Step.{Outcome, tapStep, newRecord, ask, send, gossipStep}
 
 -- each screen's book, the gossip ever sent, and the history: the taps taken, the last first
 pub record House : Type 0 where
@@ -28,24 +29,26 @@ put books i b k = cond (eqb k i) b (books k)
 unfoldable pub grown : Reply → Record → List Record → List Record
 grown reply r history = cond (isTaken reply) (r ∷ history) history
 
+unfoldable pub afterRequest : House → ℕ → Outcome → Record → House
+afterRequest h i o r =
+    record { book = put (h .book) i (o .book); sent = h .sent; history = grown (o .reply) r (h .history) }
+
 unfoldable pub afterTap : House → ℕ → Tap → Stamp → House
-afterTap h i t l =
-    record {
-      book = put (h .book) i ((tapStep (h .book i) t l) .book);
-      sent = h .sent;
-      history = grown ((tapStep (h .book i) t l) .reply) (newRecord (h .book i) t l) (h .history);
-    }
+afterTap h i t l = afterRequest h i (tapStep (h .book i) t l) (newRecord (h .book i) (says t) l)
 
 unfoldable pub afterQuestion : House → ℕ → ℕ → Stamp → House
-afterQuestion h i p l = record { book = put (h .book) i ((ask (h .book i) p l) .book); sent = h .sent; history = h .history }
+afterQuestion h i p l = record
+    { book = put (h .book) i ((ask (h .book i) p l) .book); sent = h .sent; history = h .history }
 
 unfoldable pub afterSend : House → ℕ → House
 afterSend h i = record { book = h .book; sent = send (h .book i) ∷ h .sent; history = h .history }
 
 unfoldable pub afterGossip : House → ℕ → Message → House
-afterGossip h i m = record { book = put (h .book) i ((gossipStep (h .book i) m) .book); sent = h .sent; history = h .history }
+afterGossip h i m = record
+    { book = put (h .book) i ((gossipStep (h .book i) m) .book); sent = h .sent; history = h .history }
 
--- One step of a house of n screens: any tap, any question, a send, or gossip once sent, which may arrive at any screen late,
+-- One step of a house of n screens: any tap, any question, a send, or gossip once sent, which may arrive at any screen
+-- late,
 -- twice, out of order or never.
 pub data Step (n : ℕ) : House → House → Type 0 where
   tap : {h : House} (i : ℕ) → i < n → (t : Tap) (l : Stamp) → Step n h (afterTap h i t l)

@@ -1,18 +1,19 @@
 -- What is new, what may go and what waits, by document 01's own examples: one table, one claim. Assumes nothing.
-use Prim.Native.Nat.{ℕ}
+use Prim.Native.Nat.{ℕ, _-_}
 use mathlib.Core.Path.{_≡_, refl}
 use mathlib.Core.Bool.{Bool, true}
 use mathlib.Core.List.{_∷_, [], List, _++_}
+use lib.ListN.{replicate}
 use Rattle.lists.specs.Table.{agrees}
 use Rattle.lists.specs.Tests.{keep, numbers}
-use Rattle.stamp.specs.Limits.{word, parts}
+use Rattle.limits.specs.Limits.{word, parts}
 use Rattle.stamp.specs.Stamp.{Stamp, stampFits}
 use Rattle.ledger.specs.Log.{unknowns, waitingIn, remaining}
 use Rattle.ledger.specs.Record.{Record, place, stampOf, knows, isKnown, isApplied, isWaiting, everywhere, mayGo, recordFits}
 
 -- a stamp by its first parts, and the places of some records: origin, number, one after the other
 abbrev pub at : ℕ → ℕ → ℕ → Stamp
-at a b c = a ∷ b ∷ c ∷ 0 ∷ 0 ∷ 0 ∷ 0 ∷ 0 ∷ []
+at a b c = a ∷ b ∷ c ∷ replicate (parts - 3) 0
 
 abbrev pub placesOf : List Record → List ℕ
 placesOf [] = []
@@ -36,7 +37,7 @@ table =
     ∷ (placesOf (unknowns (at 1 0 0) (first (at 0 5 0) ∷ [])), [])
     ∷ (placesOf (unknowns (at 0 5 0) (first (at 0 5 0) ∷ [])), 0 ∷ 1 ∷ [])
     -- N. N is 2: the tap with label (0,9) waits, and stays in the log though both screens know it
-    ∷ (placesOf (waitingIn (at 1 0 0) (first (at 0 9 0) ∷ [])), 0 ∷ 1 ∷ [])
+    ∷ (placesOf (waitingIn (at 1 0 0) (at 1 0 0) (first (at 0 9 0) ∷ [])), 0 ∷ 1 ∷ [])
     ∷ (placesOf (remaining (at 1 0 0) (at 1 0 0 ∷ at 1 0 0 ∷ []) (first (at 0 9 0) ∷ [])), 0 ∷ 1 ∷ [])
     -- applied, it stays until every row has it
     ∷ (placesOf (remaining (at 1 0 0) (at 1 0 0 ∷ at 0 0 0 ∷ []) (first (at 0 0 0) ∷ [])), 0 ∷ 1 ∷ [])
@@ -47,5 +48,6 @@ table =
     ∷ []
 
 pub records-practised : agrees table ≡ true
-unfolding first numbered owned table stampOf knows isKnown isApplied isWaiting everywhere mayGo recordFits stampFits word parts unknowns remaining waitingIn
+unfolding first numbered owned table stampOf knows isKnown isApplied isWaiting everywhere mayGo recordFits stampFits
+    word unknowns remaining waitingIn
 records-practised = refl

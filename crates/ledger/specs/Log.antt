@@ -17,17 +17,22 @@ unknowns s rs = keep (λ r. not (isKnown s r)) rs
 unfoldable pub gathered : List Record → List Record → List Record
 gathered new log = insertAll place new log
 
--- applied under the known stamp `now`, and not under the one before
+-- The ready stamp: the stamp under which a record is applied, from the known stamp and the log. Today it is the known
+-- stamp; its laws are in ReadyLaws, and nothing else opens it.
+unfoldable pub readyStamp : Stamp → List Record → Stamp
+readyStamp s log = s
+
+-- applied under the ready stamp `now`, and not under the one before
 unfoldable pub newlyApplied : Stamp → Stamp → List Record → List Record
 newlyApplied before now rs = keep (λ r. isApplied now r && not (isApplied before r)) rs
 
 -- the log holds exactly the known records that are not both applied and known everywhere
 unfoldable pub remaining : Stamp → List Stamp → List Record → List Record
-remaining s rows rs = keep (λ r. not (mayGo s rows r)) rs
+remaining y rows rs = keep (λ r. not (mayGo y rows r)) rs
 
 -- waiting: known, not applied
-unfoldable pub waitingIn : Stamp → List Record → List Record
-waitingIn s rs = keep (isWaiting s) rs
+unfoldable pub waitingIn : Stamp → Stamp → List Record → List Record
+waitingIn s y rs = keep (isWaiting s y) rs
 
 -- the merge of the stamps of some records, over what is there already
 abbrev pub mergeAll : List Record → Stamp → Stamp

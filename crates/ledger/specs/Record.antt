@@ -1,4 +1,5 @@
--- Records, and when a stamp knows and applies one. A body is one word: what it says is not the ledger's business. Assumes nothing.
+-- Records, and when a stamp knows and applies one. A body is one word: what it says is not the ledger's business.
+-- Assumes nothing.
 use Prim.Native.Nat.{ℕ}
 use mathlib.Core.Bool.{Bool, not, _&&_}
 use mathlib.Core.List.{List, [], _∷_}
@@ -27,13 +28,13 @@ knows s k q = leb q (part s k)
 unfoldable pub isKnown : Stamp → Record → Bool
 isKnown s r = knows s (r .origin) (r .number)
 
--- applied: known, and the known stamp covers the record's label
+-- applied, under the ready stamp: it has the record's number and covers its label
 unfoldable pub isApplied : Stamp → Record → Bool
-isApplied s r = isKnown s r && atMost (r .label) s
+isApplied y r = isKnown y r && atMost (r .label) y
 
--- waiting: known, not applied
-unfoldable pub isWaiting : Stamp → Record → Bool
-isWaiting s r = isKnown s r && not (isApplied s r)
+-- waiting: known under the known stamp, not applied under the ready one
+unfoldable pub isWaiting : Stamp → Stamp → Record → Bool
+isWaiting s y r = isKnown s r && not (isApplied y r)
 
 -- known everywhere: every table row has it
 unfoldable pub everywhere : List Stamp → ℕ → ℕ → Bool
@@ -41,7 +42,7 @@ everywhere rows k q = every (λ row. knows row k q) rows
 
 -- both applied and known everywhere: it may leave the log
 unfoldable pub mayGo : Stamp → List Stamp → Record → Bool
-mayGo s rows r = isApplied s r && everywhere rows (r .origin) (r .number)
+mayGo y rows r = isApplied y r && everywhere rows (r .origin) (r .number)
 
 -- a list of records has number q of origin k
 unfoldable pub has : List Record → ℕ → ℕ → Bool
@@ -50,7 +51,8 @@ has rs k q = exists (λ r. eqb (r .origin) k && eqb (r .number) q) rs
 -- the field rules of a record in a house of n screens; `bodyFits` is the rule of its body
 abbrev pub recordRules : (ℕ → Bool) → ℕ → Record → List Bool
 recordRules bodyFits n r =
-    ltb (r .origin) n ∷ leb 1 (r .number) ∷ ltb (part (r .label) (r .origin)) (r .number) ∷ stampFits n (r .label) ∷ bodyFits (r .body) ∷ []
+    ltb (r .origin) n ∷ leb 1 (r .number) ∷ ltb (part (r .label) (r .origin)) (r .number) ∷ stampFits n (r .label)
+    ∷ bodyFits (r .body) ∷ []
 
 unfoldable pub recordFits : (ℕ → Bool) → ℕ → Record → Bool
 recordFits bodyFits n r = all (recordRules bodyFits n r)

@@ -9,7 +9,7 @@ use lib.Dec.{eqb, ltb, ltb→lt, lt→ltb}
 use lib.ListN.{length}
 use borrow.Author.Tests.{lt-ltb}
 use Rattle.lists.specs.Tests.{exists}
-use Rattle.lists.specs.Facts.{same-test}
+use Rattle.lists.specs.TestLaws.{same-test}
 use Rattle.ledger.specs.Record.{Record}
 
 unfoldable pub firstWith : ℕ → List Record → ℕ
@@ -22,7 +22,8 @@ unfolding firstWith
 first-found w [] = refl
 first-found w (r ∷ rs) = go (eqb (r .body) w) (first-found w rs)
   where
-    go : (c : Bool) → exists (λ x. eqb (x .body) w) rs ≡ ltb (firstWith w rs) (length rs) → (c || exists (λ x. eqb (x .body) w) rs) ≡ ltb (cond c 0 (suc (firstWith w rs))) (suc (length rs))
+    go : (c : Bool) → exists (λ x. eqb (x .body) w) rs ≡ ltb (firstWith w rs) (length rs)
+        → (c || exists (λ x. eqb (x .body) w) rs) ≡ ltb (cond c 0 (suc (firstWith w rs))) (suc (length rs))
     go true e = sym (lt-ltb 0 (suc (length rs)) (omega arith))
     go false e =
         e

@@ -1,4 +1,5 @@
--- No number missing, found in one pass: a stamp that climbs by each record that is the next of its origin. Assumes nothing.
+-- No number missing, found in one pass: a stamp that climbs by each record that is the next of its origin. Assumes
+-- nothing.
 --     climb-part      part k of the climb: exactly the numbers up to it are in the list or at most the start
 --     climb-holds     every number up to an end stamp, for the first n origins
 --     allHeld-climb   every known record is in the log or known everywhere
@@ -16,8 +17,8 @@ use borrow.Author.Tests.{eq-eqb, ne-eqb}
 use Rattle.lists.specs.Scan.{le-or-lt}
 use Rattle.lists.specs.Tests.{allBelow}
 use Rattle.lists.specs.Order.{rising}
-use Rattle.lists.specs.Facts.{_∈_, here, either, or-cases, or-l, or-r, allBelow-at, allBelow-from, same-test}
-use Rattle.lists.specs.MoreFacts.{same-or-not, below-same}
+use Rattle.lists.specs.TestLaws.{_∈_, here, either, or-cases, or-l, or-r, allBelow-at, allBelow-from, same-test}
+use Rattle.lists.specs.ElementLaws.{same-or-not, below-same}
 use Rattle.lists.specs.Sorted.{head-before, tail-rising}
 use Rattle.stamp.specs.Stamp.{Stamp, part}
 use Rattle.ledger.specs.Record.{Record, place, has}
@@ -55,7 +56,8 @@ one-record s x k h =
     (λ e. inr (λ e′. absurd (e (sym e′)), getD-set-other s (x .origin) k (raised (part s (x .origin)) (x .number)) 0 e))
   where
     there-set : k ≡ x .origin → part (climbed s x) k ≡ raised (part s k) (x .number)
-    there-set e = ap (λ (j : ℕ). part (set s j (raised (part s j) (x .number))) k) (sym e) ∙ getD-set-same s k (raised (part s k) (x .number)) 0 h
+    there-set e = ap (λ (j : ℕ). part (set s j (raised (part s j) (x .number))) k) (sym e)
+        ∙ getD-set-same s k (raised (part s k) (x .number)) 0 h
 
     at : k ≡ x .origin → (x .number ≡ suc (part s k)) ⊎ (x .number ≢ suc (part s k)) → Raises s x k ⊎ Stays s x k
     at e (inl q) = inl (sym e, q, there-set e ∙ rw (eq-eqb _ _ q) q)
@@ -77,21 +79,25 @@ found : (rs : List Record) (s : Stamp) (k e : ℕ) → k < length s → e ≤ pa
 unfolding climb
 found [] s k e h l q b = inr (omega arith)
 found (x ∷ xs) s k e h l q b =
-    either (found xs (climbed s x) k e (rw (length-set s (x .origin) (raised (part s (x .origin)) (x .number))) h) l q b)
+    either (found xs (climbed s x) k e (rw (length-set s (x .origin) (raised (part s (x .origin)) (x .number))) h) l q
+    b)
     (λ t. inl (more-has x xs k (suc q) t))
     (λ t. either (one-record s x k h) (λ u. new t u (le-or-lt (suc q) (part s k))) (λ u. inr (omega (arith, u .1))))
   where
-    new : suc q ≤ part (climbed s x) k → Raises s x k → (suc q ≤ part s k) ⊎ (part s k < suc q) → T (has (x ∷ xs) k (suc q)) ⊎ (suc q ≤ part s k)
+    new : suc q ≤ part (climbed s x) k → Raises s x k → (suc q ≤ part s k) ⊎ (part s k < suc q)
+        → T (has (x ∷ xs) k (suc q)) ⊎ (suc q ≤ part s k)
     new t u (inl o) = inr o
     new t u (inr o) = inl (has-from (x ∷ xs) k (suc q) x here (u .0) (omega (arith, u .1, u .2)))
 
-finds : (rs : List Record) (s : Stamp) (k e : ℕ) → k < length s → T (rising place rs) → Found rs s k e → e ≤ part (climb s rs) k
+finds : (rs : List Record) (s : Stamp) (k e : ℕ) → k < length s → T (rising place rs) → Found rs s k e
+    → e ≤ part (climb s rs) k
 unfolding climb
 finds [] s k e h o f =
     either (le-or-lt e (part s k)) (λ l. l)
     (λ l. absurd (either (f (part s k) l) (λ t. none-has k (suc (part s k)) t) (λ t. omega arith)))
 finds (x ∷ xs) s k e h o f =
-    finds xs (climbed s x) k e (rw (length-set s (x .origin) (raised (part s (x .origin)) (x .number))) h) (tail-rising place x xs o)
+    finds xs (climbed s x) k e (rw (length-set s (x .origin) (raised (part s (x .origin)) (x .number))) h)
+    (tail-rising place x xs o)
     (λ q b. either (le-or-lt (suc q) (part (climbed s x) k)) (λ l. inr l) (λ l. above q b l (one-record s x k h)))
   where
     -- a later record of one origin has a larger number
@@ -100,48 +106,68 @@ finds (x ∷ xs) s k e h o f =
 
     -- the next number is there, so x cannot have passed it
     passed : (q : ℕ) → q < e → x .origin ≡ k → x .number ≡ suc q → part s k < q → ⊥
-    passed q b c d l = either (f (part s k) (omega arith)) (λ t. gone (has-at (x ∷ xs) k (suc (part s k)) t)) (λ t. omega arith)
+    passed q b c d l = either (f (part s k) (omega arith)) (λ t. gone (has-at (x ∷ xs) k (suc (part s k)) t))
+        (λ t. omega arith)
       where
         gone : ((r : Record) × (r ∈ x ∷ xs) × (r .origin ≡ k) × (r .number ≡ suc (part s k))) → ⊥
-        gone w = either (List·Memᴰ·cases-cons (w .1)) (λ u. omega (arith, ap (λ (y : Record). y .number) u, w .3)) (λ m. omega (arith, later (w .0) m (w .2 ∙ sym c), w .3))
+        gone w = either (List·Memᴰ·cases-cons (w .1)) (λ u. omega (arith, ap (λ (y : Record). y .number) u, w .3))
+            (λ m. omega (arith, later (w .0) m (w .2 ∙ sym c), w .3))
 
     -- x itself is no number above the climb: it would be the next, or have passed the next
-    not-x : (q : ℕ) → q < e → part (climbed s x) k < suc q → x .origin ≡ k → x .number ≡ suc q → Raises s x k ⊎ Stays s x k → ⊥
+    not-x : (q : ℕ) → q < e → part (climbed s x) k < suc q → x .origin ≡ k → x .number ≡ suc q
+        → Raises s x k ⊎ Stays s x k → ⊥
     not-x q b l c d (inl v) = omega (arith, v .1, v .2)
-    not-x q b l c d (inr v) = either (same-or-not (part s k) q) (λ y. v .0 c (d ∙ ap suc (sym y))) (λ y. passed q b c d (omega (arith, v .1, y)))
+    not-x q b l c d (inr v) =
+        either (same-or-not (part s k) q) (λ y. v .0 c (d ∙ ap suc (sym y)))
+        (λ y. passed q b c d (omega (arith, v .1, y)))
 
-    above : (q : ℕ) → q < e → part (climbed s x) k < suc q → Raises s x k ⊎ Stays s x k → T (has xs k (suc q)) ⊎ (suc q ≤ part (climbed s x) k)
-    above q b l u = either (f q b) (λ t. inl (among (has-at (x ∷ xs) k (suc q) t))) (λ t. absurd (either u (λ v. omega (arith, v .2)) (λ v. omega (arith, v .1))))
+    above : (q : ℕ) → q < e → part (climbed s x) k < suc q → Raises s x k ⊎ Stays s x k
+        → T (has xs k (suc q)) ⊎ (suc q ≤ part (climbed s x) k)
+    above q b l u = either (f q b) (λ t. inl (among (has-at (x ∷ xs) k (suc q) t)))
+        (λ t. absurd (either u (λ v. omega (arith, v .2)) (λ v. omega (arith, v .1))))
       where
         among : ((r : Record) × (r ∈ x ∷ xs) × (r .origin ≡ k) × (r .number ≡ suc q)) → T (has xs k (suc q))
         among w =
-            either (List·Memᴰ·cases-cons (w .1)) (λ c. absurd (not-x q b l (ap (λ (y : Record). y .origin) (sym c) ∙ w .2) (ap (λ (y : Record). y .number) (sym c) ∙ w .3) u))
+            either (List·Memᴰ·cases-cons (w .1))
+            (λ c. absurd (not-x q b l (ap (λ (y : Record). y .origin) (sym c) ∙ w .2)
+            (ap (λ (y : Record). y .number) (sym c) ∙ w .3) u))
             (λ m. has-from xs k (suc q) (w .0) m (w .2) (w .3))
 
 -- the same facts as tests
-test-found : (rs : List Record) (s : Stamp) (k e : ℕ) → T (allBelow e (λ q. has rs k (suc q) || leb (suc q) (part s k))) → Found rs s k e
+test-found : (rs : List Record) (s : Stamp) (k e : ℕ) → T (allBelow e (λ q. has rs k (suc q) || leb (suc q) (part s k)))
+    → Found rs s k e
 test-found rs s k e t q b =
-    either (or-cases (has rs k (suc q)) (leb (suc q) (part s k)) (allBelow-at e (λ i. has rs k (suc i) || leb (suc i) (part s k)) t q b)) (λ u. inl u) (λ u. inr (leb→le (suc q) (part s k) u))
+    either (or-cases (has rs k (suc q)) (leb (suc q) (part s k))
+    (allBelow-at e (λ i. has rs k (suc i) || leb (suc i) (part s k)) t q b)) (λ u. inl u)
+    (λ u. inr (leb→le (suc q) (part s k) u))
 
-found-test : (rs : List Record) (s : Stamp) (k e : ℕ) → Found rs s k e → T (allBelow e (λ q. has rs k (suc q) || leb (suc q) (part s k)))
+found-test : (rs : List Record) (s : Stamp) (k e : ℕ) → Found rs s k e
+    → T (allBelow e (λ q. has rs k (suc q) || leb (suc q) (part s k)))
 found-test rs s k e f =
     allBelow-from e (λ q. has rs k (suc q) || leb (suc q) (part s k))
-    (λ q b. either (f q b) (λ u. or-l (has rs k (suc q)) (leb (suc q) (part s k)) u) (λ u. or-r (has rs k (suc q)) (leb (suc q) (part s k)) (le→leb (suc q) (part s k) u)))
+    (λ q b. either (f q b) (λ u. or-l (has rs k (suc q)) (leb (suc q) (part s k)) u)
+    (λ u. or-r (has rs k (suc q)) (leb (suc q) (part s k)) (le→leb (suc q) (part s k) u)))
 
-pub climb-part : (rs : List Record) (s : Stamp) → T (rising place rs) → (k e : ℕ) → k < length s → allBelow e (λ q. has rs k (suc q) || leb (suc q) (part s k)) ≡ leb e (part (climb s rs) k)
+pub climb-part : (rs : List Record) (s : Stamp) → T (rising place rs) → (k e : ℕ) → k < length s
+    → allBelow e (λ q. has rs k (suc q) || leb (suc q) (part s k)) ≡ leb e (part (climb s rs) k)
 climb-part rs s o k e h =
     same-test (allBelow e (λ q. has rs k (suc q) || leb (suc q) (part s k))) (leb e (part (climb s rs) k))
     (λ t. le→leb e (part (climb s rs) k) (finds rs s k e h o (test-found rs s k e t)))
     (λ t. found-test rs s k e (found rs s k e h (leb→le e (part (climb s rs) k) t)))
 
-pub climb-holds : (n : ℕ) (start end : Stamp) (rs : List Record) → T (rising place rs) → n ≤ length start → holdsAll n start end rs ≡ allBelow n (λ k. leb (part end k) (part (climb start rs) k))
+pub climb-holds : (n : ℕ) (start end : Stamp) (rs : List Record) → T (rising place rs) → n ≤ length start
+    → holdsAll n start end rs ≡ allBelow n (λ k. leb (part end k) (part (climb start rs) k))
 unfolding holdsAll
 climb-holds n start end rs o h = below-same n _ _ (λ k b. climb-part rs start o k (part end k) (omega arith))
 
-pub allHeld-climb : (n : ℕ) (s : Stamp) (rows : List Stamp) (log : List Record) → s ∈ rows → allHeld n s rows log ≡ holdsAll n (lowestFrom s rows) s log
+pub allHeld-climb : (n : ℕ) (s : Stamp) (rows : List Stamp) (log : List Record) → s ∈ rows
+    → allHeld n s rows log ≡ holdsAll n (lowestFrom s rows) s log
 unfolding allHeld holdsAll
-allHeld-climb n s rows log m = below-same n _ _ (λ k b. below-same (part s k) _ _ (λ q l. ap (λ (c : Bool). has log k (suc q) || c) (everywhere-lowest s rows m k (suc q))))
+allHeld-climb n s rows log m =
+    below-same n _ _ (λ k b. below-same (part s k) _ _
+    (λ q l. ap (λ (c : Bool). has log k (suc q) || c) (everywhere-lowest s rows m k (suc q))))
 
 pub gapless-climb : (n : ℕ) (s : Stamp) (m : Message) → gapless n s m ≡ holdsAll n s (m .stamp) (m .records)
 unfolding gapless holdsAll
-gapless-climb n s m = below-same n _ _ (λ k b. below-same (part (m .stamp) k) _ _ (λ q l. or-comm (ltb q (part s k)) (has (m .records) k (suc q))))
+gapless-climb n s m = below-same n _ _
+    (λ k b. below-same (part (m .stamp) k) _ _ (λ q l. or-comm (ltb q (part s k)) (has (m .records) k (suc q))))

@@ -26,7 +26,8 @@ pub records-all : (n : ℕ) (r : List ℕ) → recordsAt n r ≡ recordsFrom n r
 unfolding recordsFrom
 records-all n r = rw sub-zero
 
-pub records-next : (n : ℕ) (r : List ℕ) (i at : ℕ) → i < n → recordsFrom n r i at ≡ recordFrom r at ∷ recordsFrom n r (i + 1) (at + rowLong)
+pub records-next : (n : ℕ) (r : List ℕ) (i at : ℕ) → i < n
+    → recordsFrom n r i at ≡ recordFrom r at ∷ recordsFrom n r (i + 1) (at + rowLong)
 unfolding recordsFrom recordFrom recordsAt rows
 records-next n r i at h =
     let e : n - i ≡ suc (n - (i + 1)) = omega arith in

@@ -1,19 +1,22 @@
 // The log on a lent slice: rows of eleven words, by origin, then number. Knows nothing of what a body means.
 use ledger::FIRST_NUMBER;
-use stamp::PARTS;
+use limits::PARTS;
+use stamp::Parts;
 use stamp::at_most;
 use stamp::fits;
 use stamp::list_of;
 use stamp::parts_at;
+use stamp::put_parts;
 ghost use mathlib.Core.Path.{_≡_};
 ghost use mathlib.Core.Bool.{true};
 ghost use Prim.Native.Nat.{_*_, _≤_, min};
 ghost use lib.Dec.{T, leb};
 ghost use lib.ListN.{length};
-ghost use Rattle.lists.specs.Facts.{bit};
+ghost use Rattle.lists.specs.TestLaws.{bit};
 ghost use Rattle.lists.specs.Order.{keyBefore, rising};
 ghost use Rattle.lists.specs.Rows.{rows};
 ghost use Rattle.lists.specs.Tests.{allBelow, every};
+ghost use Rattle.stamp.specs.Parts.{listOf};
 ghost use Rattle.stamp.specs.Stamp.{part};
 ghost use Rattle.ledger.specs.Log.{waitingIn};
 ghost use Rattle.ledger.specs.Record.{place, isKnown, isApplied, isWaiting, recordFits};
@@ -23,17 +26,17 @@ ghost use Rattle.log.specs.RowSound.{rowSound};
 ghost use Rattle.log.specs.Held.{raised, climbed, climb, holdsAll};
 ghost use Rattle.log.specs.First.{firstWith};
 
-// A row's words.
-pub const ROW: usize = 11;
-
 // Where the words of a row stand; the label is from LABEL to BODY.
 pub const ORIGIN: usize = 0;
 
-pub const NUMBER: usize = 1;
+pub const NUMBER: usize = ORIGIN + 1;
 
-pub const LABEL: usize = 2;
+pub const LABEL: usize = NUMBER + 1;
 
-pub const BODY: usize = 10;
+pub const BODY: usize = LABEL + PARTS;
+
+// A row's words.
+pub const ROW: usize = BODY + 1;
 
 // A part that a stamp does not have is zero.
 pub fn part_at(s: &[u64], k: u64) -> u64
@@ -64,24 +67,25 @@ pub fn is_applied(row: &[u64], s: &[u64]) -> bool
     at_most(&row[LABEL..BODY], s)
 }
 
-fn is_waiting(row: &[u64], s: &[u64]) -> bool
+// Known, and not applied under the ready stamp.
+fn is_waiting(row: &[u64], known: &[u64], ready: &[u64]) -> bool
     requires { ⌜ length (now row) ≡ rowLong ⌝ }
-    requires { ⌜ length (now s) ≡ stampLong ⌝ }
-    ensures { λ r. ⌜ r ≡ isWaiting (now (s .entry)) (recordAt (now (row .entry))) ⌝ }
+    requires { ⌜ length (now ready) ≡ stampLong ⌝ }
+    ensures { λ r. ⌜ r ≡ isWaiting (now (known .entry)) (now (ready .entry)) (recordAt (now (row .entry))) ⌝ }
 {
-    if !is_known(row, s) {
+    if !is_known(row, known) {
         return false;
     }
-    !is_applied(row, s)
+    !is_applied(row, ready)
 }
 
-// Whether the record is applied under s and known everywhere: `low` is the table's lowest stamp.
-pub fn goes(row: &[u64], s: &[u64], low: &[u64]) -> bool
+// Whether the record is applied under the ready stamp and known everywhere: `low` is the table's lowest stamp.
+pub fn goes(row: &[u64], ready: &[u64], low: &[u64]) -> bool
     requires { ⌜ length (now row) ≡ rowLong ⌝ }
-    requires { ⌜ length (now s) ≡ stampLong ⌝ }
-    ensures { λ r. ⌜ r ≡ goesBy (now (s .entry)) (now (low .entry)) (recordAt (now (row .entry))) ⌝ }
+    requires { ⌜ length (now ready) ≡ stampLong ⌝ }
+    ensures { λ r. ⌜ r ≡ goesBy (now (ready .entry)) (now (low .entry)) (recordAt (now (row .entry))) ⌝ }
 {
-    if !is_applied(row, s) {
+    if !is_applied(row, ready) {
         return false;
     }
     is_known(row, low)
@@ -104,11 +108,20 @@ fn row_fits(row: &[u64], n: usize) -> bool
     fits(&row[LABEL..BODY], n)
 }
 
-// What soundness asks of a record alone. Once it fits, the value stamp covers its stamp exactly when the record is applied under it.
-fn row_sound(row: &[u64], n: usize, known: &[u64], low: &[u64], value: &[u64]) -> bool
+// What soundness asks of a record alone. Once it fits, the value stamp covers its stamp exactly when the record is
+// applied under it.
+fn row_sound(
+    row: &[u64],
+    n: usize,
+    known: &[u64],
+    ready: &[u64],
+    low: &[u64],
+    value: &[u64],
+) -> bool
     requires { ⌜ length (now row) ≡ rowLong ⌝ }
-    requires { ⌜ (length (now known) ≡ stampLong) × (length (now value) ≡ stampLong) ⌝ }
-    ensures { λ r. ⌜ r ≡ rowSound n (now (known .entry)) (now (low .entry)) (now (value .entry)) (recordAt (now (row .entry))) ⌝ }
+    requires { ⌜ (length (now ready) ≡ stampLong) × (length (now value) ≡ stampLong) ⌝ }
+    ensures { λ r. ⌜ r ≡ rowSound n (now (known .entry)) (now (ready .entry)) (now (low .entry)) (now (value .entry))
+        (recordAt (now (row .entry))) ⌝ }
 {
     if !is_known(row, known) {
         return false;
@@ -116,10 +129,10 @@ fn row_sound(row: &[u64], n: usize, known: &[u64], low: &[u64], value: &[u64]) -
     if !row_fits(row, n) {
         return false;
     }
-    if goes(row, known, low) {
+    if goes(row, ready, low) {
         return false;
     }
-    if !is_applied(row, known) {
+    if !is_applied(row, ready) {
         return true;
     }
     is_applied(row, value)
@@ -134,7 +147,8 @@ fn smaller(x: u64, y: u64) -> u64
 // The smaller in each part, written over a.
 fn meet_into(a: &mut [u64], b: &[u64])
     requires { ⌜ length (now a) ≡ length (now b) ⌝ }
-    ensures { λ _. ⌜ (now (a .exit) ≡ meet (now (a .entry)) (now (b .entry))) × (length (now (a .exit)) ≡ length (now (a .entry))) ⌝ }
+    ensures { λ _. ⌜ (now (a .exit) ≡ meet (now (a .entry)) (now (b .entry)))
+        × (length (now (a .exit)) ≡ length (now (a .entry))) ⌝ }
 {
     let mut i = 0;
     while i < a.len() {
@@ -147,7 +161,8 @@ fn meet_into(a: &mut [u64], b: &[u64])
 pub fn lowest(table: &[u64], n: usize, low: &mut [u64])
     requires { ⌜ n * stampLong ≤ length (now table) ⌝ }
     requires { ⌜ length (now low) ≡ stampLong ⌝ }
-    ensures { λ _. ⌜ (now (low .exit) ≡ lowestFrom (now (low .entry)) (rows stampLong n (now (table .entry)))) × (length (now (low .exit)) ≡ stampLong) ⌝ }
+    ensures { λ _. ⌜ (now (low .exit) ≡ lowestFrom (now (low .entry)) (rows stampLong n (now (table .entry))))
+        × (length (now (low .exit)) ≡ stampLong) ⌝ }
 {
     let mut i = 0;
     let mut at = 0;
@@ -165,18 +180,21 @@ pub fn rows_sound(
     count: usize,
     n: usize,
     known: &[u64],
+    ready: &[u64],
     low: &[u64],
     value: &[u64],
 ) -> bool
     requires { ⌜ count * rowLong ≤ length (now r) ⌝ }
-    requires { ⌜ (length (now known) ≡ stampLong) × (length (now value) ≡ stampLong) ⌝ }
-    ensures { λ b. ⌜ b ≡ every (rowSound n (now (known .entry)) (now (low .entry)) (now (value .entry))) (recordsAt count (now (r .entry))) ⌝ }
+    requires { ⌜ (length (now ready) ≡ stampLong) × (length (now value) ≡ stampLong) ⌝ }
+    ensures { λ b. ⌜ b
+        ≡ every (rowSound n (now (known .entry)) (now (ready .entry)) (now (low .entry)) (now (value .entry)))
+        (recordsAt count (now (r .entry))) ⌝ }
 {
     let mut i = 0;
     let mut at = 0;
     while i < count {
         let e = at + ROW;
-        if !row_sound(&r[at..e], n, known, low, value) {
+        if !row_sound(&r[at..e], n, known, ready, low, value) {
             return false;
         }
         at = e;
@@ -234,7 +252,8 @@ fn raise(reached: u64, q: u64) -> u64
 // An origin past the stamp's parts raises none.
 pub fn climb_row(row: &[u64], reached: &mut [u64])
     requires { ⌜ length (now row) ≡ rowLong ⌝ }
-    ensures { λ _. ⌜ (now (reached .exit) ≡ climbed (now (reached .entry)) (recordAt (now (row .entry)))) × (length (now (reached .exit)) ≡ length (now (reached .entry))) ⌝ }
+    ensures { λ _. ⌜ (now (reached .exit) ≡ climbed (now (reached .entry)) (recordAt (now (row .entry))))
+        × (length (now (reached .exit)) ≡ length (now (reached .entry))) ⌝ }
 {
     let k = row[ORIGIN] as usize;
     if reached.len() <= k {
@@ -246,7 +265,8 @@ pub fn climb_row(row: &[u64], reached: &mut [u64])
 // How far the numbers of each origin go without a gap from those reached, written over them.
 fn climb_rows(r: &[u64], count: usize, reached: &mut [u64])
     requires { ⌜ count * rowLong ≤ length (now r) ⌝ }
-    ensures { λ _. ⌜ (now (reached .exit) ≡ climb (now (reached .entry)) (recordsAt count (now (r .entry)))) × (length (now (reached .exit)) ≡ length (now (reached .entry))) ⌝ }
+    ensures { λ _. ⌜ (now (reached .exit) ≡ climb (now (reached .entry)) (recordsAt count (now (r .entry))))
+        × (length (now (reached .exit)) ≡ length (now (reached .entry))) ⌝ }
 {
     let mut i = 0;
     let mut at = 0;
@@ -293,21 +313,36 @@ fn one_if(b: bool) -> usize
 }
 
 // How many records wait.
-pub fn count_waiting(r: &[u64], count: usize, known: &[u64]) -> usize
+pub fn count_waiting(r: &[u64], count: usize, known: &[u64], ready: &[u64]) -> usize
     requires { ⌜ count * rowLong ≤ length (now r) ⌝ }
-    requires { ⌜ length (now known) ≡ stampLong ⌝ }
-    ensures { λ n. ⌜ (n ≡ length (waitingIn (now (known .entry)) (recordsAt count (now (r .entry))))) × (n ≤ count) ⌝ }
+    requires { ⌜ length (now ready) ≡ stampLong ⌝ }
+    ensures { λ n. ⌜ (n
+        ≡ length (waitingIn (now (known .entry)) (now (ready .entry)) (recordsAt count (now (r .entry)))))
+        × (n ≤ count) ⌝ }
 {
     let mut n = 0;
     let mut i = 0;
     let mut at = 0;
     while i < count {
         let e = at + ROW;
-        n += one_if(is_waiting(&r[at..e], known));
+        n += one_if(is_waiting(&r[at..e], known, ready));
         at = e;
         i += 1;
     }
     n
+}
+
+// The row of a record.
+pub fn make_row(origin: u64, number: u64, label: Parts, body: u64) -> [u64; ROW]
+    ensures { λ r. ⌜ (recordAt r ≡ record { origin = origin; number = number; label = listOf label; body = body })
+        × (length r ≡ rowLong) ⌝ }
+{
+    let mut row = [0u64; ROW];
+    row[ORIGIN] = origin;
+    row[NUMBER] = number;
+    put_parts(&mut row, LABEL, label);
+    row[BODY] = body;
+    row
 }
 
 fn body_of(row: &[u64]) -> u64

@@ -6,13 +6,14 @@ use lib.Dec.{eqb, leb}
 use lib.ListN.{getD, replicate, length}
 use Rattle.lists.specs.Order.{rising}
 use Rattle.lists.specs.Tests.{every, all}
+use Rattle.limits.specs.Limits.{logRoom, bookRoom}
 use Rattle.stamp.specs.Stamp.{Stamp, zeros, stampFits, total, atMost}
+use Rattle.tally.specs.Body.{tapsIn, bodyFits}
 use Rattle.tally.specs.Standing.{blank, afresh, among, sameCounts}
-use Rattle.tally.specs.Tap.{tapsIn, fields, tapFits, bodyFits}
+use Rattle.tally.specs.Tap.{fields, tapFits}
 use Rattle.tally.specs.declared.Standing.{Standing}
 use Rattle.tally.specs.declared.Tap.{Tap}
-use Rattle.ledger.specs.Limits.{logRoom, bookRoom}
-use Rattle.ledger.specs.Log.{waitingIn, allHeld}
+use Rattle.ledger.specs.Log.{readyStamp, waitingIn, allHeld}
 use Rattle.ledger.specs.Message.{inRange}
 use Rattle.ledger.specs.Record.{Record, place, isKnown, recordFits, mayGo, isApplied, stampOf}
 
@@ -28,7 +29,8 @@ pub record Book : Type 0 where
   pub log : List Record
   -- the counted taps, in order of the five fields
   pub counted : List Tap
-  -- for each prompt the highest showing among its counted taps (0 if none), and how many of that showing are accepts and declines
+  -- for each prompt the highest showing among its counted taps (0 if none), and how many of that showing are accepts
+  -- and declines
   pub prompts : List Standing
 
 -- row j, and the known stamp: part k says how many of screen k's records are known here, always the first so many
@@ -38,17 +40,29 @@ row b j = getD (b .table) j []
 unfoldable pub known : Book → Stamp
 known b = row b (b .me)
 
+-- the ready stamp: a record is applied here under it
+unfoldable pub ready : Book → Stamp
+ready b = readyStamp (known b) (b .log)
+
 -- showing, accepts and declines of a prompt
 unfoldable pub standingAt : Book → ℕ → Standing
 standingAt b p = getD (b .prompts) p blank
 
 -- the log's waiting records: no others wait
 unfoldable pub waiting : Book → List Record
-waiting b = waitingIn (known b) (b .log)
+waiting b = waitingIn (known b) (ready b) (b .log)
 
 -- Open writes the fresh book of screen i of N
 unfoldable pub fresh : ℕ → ℕ → Book
-fresh i n = record { me = i; screens = n; table = replicate n zeros; value = zeros; log = []; counted = []; prompts = afresh [] }
+fresh i n = record {
+  me = i;
+  screens = n;
+  table = replicate n zeros;
+  value = zeros;
+  log = [];
+  counted = [];
+  prompts = afresh [];
+}
 
 -- the record has the tap; its taps are all among some taps
 unfoldable pub holds : Tap → Record → Bool
@@ -77,9 +91,9 @@ clauses b =
     ∷ every (recordFits bodyFits (b .screens)) (b .log)
     -- every known record is in the log or known everywhere, and none in the log is both applied and known everywhere
     ∷ allHeld (b .screens) (known b) (b .table) (b .log)
-    ∷ every (λ r. not (mayGo (known b) (b .table) r)) (b .log)
+    ∷ every (λ r. not (mayGo (ready b) (b .table) r)) (b .log)
     -- each applied log record's tap is counted
-    ∷ every (λ r. not (isApplied (known b) r) || countedIn (b .counted) r) (b .log)
+    ∷ every (λ r. not (isApplied (ready b) r) || countedIn (b .counted) r) (b .log)
     -- counted taps, and each prompt's two counts together, number at most the known records less the waiting ones
     ∷ leb (length (b .counted) + length (waiting b)) (total (known b))
     ∷ every (λ s. leb (s .accepts + s .declines + length (waiting b)) (total (known b))) (b .prompts)
@@ -87,7 +101,7 @@ clauses b =
     ∷ sameCounts (b .prompts) (afresh (b .counted))
     -- the value stamp is at most the known stamp and covers each applied log record's stamp
     ∷ atMost (b .value) (known b)
-    ∷ every (λ r. not (isApplied (known b) r) || atMost (stampOf r) (b .value)) (b .log)
+    ∷ every (λ r. not (isApplied (ready b) r) || atMost (stampOf r) (b .value)) (b .log)
     ∷ []
 
 unfoldable pub sound : Book → Bool

@@ -1,4 +1,5 @@
--- Taps on the practice car: document 01's starred cases A to L as one table, the order of refusals as another, and as a third what
+-- Taps on the practice car: document 01's starred cases A to L as one table, the order of refusals as another, and as a
+-- third what
 -- answers and refusals go by; one claim. Assumes nothing.
 use Prim.Native.Nat.{ℕ, suc}
 use mathlib.Core.Path.{_≡_, refl}
@@ -7,20 +8,22 @@ use mathlib.Core.List.{List, [], _∷_, flatMap}
 use mathlib.Core.Option.{none, some}
 use Rattle.lists.specs.Table.{agrees}
 use Rattle.lists.specs.Tests.{firstOf}
-use Rattle.stamp.specs.Limits.{word, parts}
+use Rattle.limits.specs.Limits.{word, frontEnds, serials, promptCount, showings, accept, decline, bookRoom, fewest, most, logRoom}
 use Rattle.stamp.specs.Stamp.{Stamp, zeros, stampFits}
-use Rattle.tally.specs.Limits.{frontEnds, serials, promptCount, showings, accept, decline}
-use Rattle.tally.specs.Standing.{among, countAll, ofPrompt, howMany, standing, standingOf, afresh, unasked, accepted, declined, contested, verdictOf}
-use Rattle.tally.specs.Tap.{wordOf, sameTap, tapFits, bodyFits}
+use Rattle.tally.specs.Body.{says as saidTap, bodyWord, bodyOf, bodyFits, tapsIn}
+use Rattle.tally.specs.Standing.{among, ofPrompt, howMany, standing, standingOf, afresh, unasked, accepted, declined}
+use Rattle.tally.specs.Standing.{contested, verdictOf, oneIf, noted, count}
+use Rattle.tally.specs.Tap.{sameTap, tapFits}
 use Rattle.tally.specs.declared.Tap.{Tap}
 use Rattle.ledger.specs.Cases.{at, placesOf}
-use Rattle.ledger.specs.Limits.{bookRoom, fewest, most, logRoom}
-use Rattle.ledger.specs.Log.{unknowns, gathered, newlyApplied, remaining, waitingIn, allHeld, gapless}
+use Rattle.ledger.specs.Log.{unknowns, gathered, readyStamp, newlyApplied, remaining, waitingIn, allHeld, gapless}
 use Rattle.ledger.specs.Message.{Message, inRange, messageFits}
 use Rattle.ledger.specs.Record.{Record, stampOf, knows, isKnown, isApplied, isWaiting, everywhere, mayGo, has, recordFits}
-use Rattle.meaning.specs.Book.{fresh, waiting, known, row, standingAt, holds, countedIn, clauses, sound}
+use Rattle.meaning.specs.Book.{fresh, waiting, known, ready, row, standingAt, holds, countedIn, clauses, sound}
 use Rattle.meaning.specs.Reply.{figures, Reply}
-use Rattle.meaning.specs.Step.{send, Outcome, tapStep, gossipStep, ask, openStops, sendStops, nowApplied, tapsOf, nowCounted, settle, newRecord, tapRows, tapStops, askStops, answerOf, newOnes, gossipRows, gossipStops}
+use Rattle.meaning.specs.Step.{send, Outcome, tapStep, gossipStep, ask, openStops, sendStops, nowReady}
+use Rattle.meaning.specs.Step.{nowApplied, tapsOf, nowNoted, settle, newRecord, ownRows, takeBook, tapStops}
+use Rattle.meaning.specs.Step.{askStops, answerOf, newOnes, gossipRows, gossipStops, hearBook}
 
 -- front end, serial, prompt, showing, answer
 unfoldable pub tapped : ℕ → ℕ → ℕ → ℕ → ℕ → Tap
@@ -28,7 +31,7 @@ tapped f s p h a = record { front = f; serial = s; prompt = p; showing = h; answ
 
 -- the record with number q of origin k that says the tap, at a label
 saying : Tap → ℕ → ℕ → Stamp → Record
-saying t k q l = record { origin = k; number = q; label = l; body = wordOf t }
+saying t k q l = record { origin = k; number = q; label = l; body = bodyWord (saidTap t) }
 
 -- sender, N, stamp, records
 message : ℕ → ℕ → Stamp → List Record → Message
@@ -36,11 +39,12 @@ message j n s rs = record { sender = j; screens = n; stamp = s; records = rs }
 
 -- what a step says; who unfolds this computes with all that the steps are made of
 unfoldable pub says : Outcome → List ℕ
-unfolding parts word zeros stampFits frontEnds serials promptCount showings accept decline sameTap tapFits bodyFits among
-    countAll ofPrompt howMany standingOf standing afresh unasked accepted declined contested verdictOf fewest most logRoom
-    bookRoom inRange messageFits stampOf knows isKnown isApplied isWaiting everywhere mayGo has recordFits unknowns gathered
-    newlyApplied remaining waitingIn allHeld gapless row known standingAt waiting fresh holds countedIn clauses sound figures
-    nowApplied tapsOf nowCounted settle newRecord tapRows tapStops tapStep askStops answerOf ask send newOnes gossipRows
+unfolding word zeros stampFits frontEnds serials promptCount showings accept decline sameTap tapFits bodyWord
+    bodyOf bodyFits tapsIn among oneIf noted count ofPrompt howMany standingOf standing afresh unasked accepted declined
+    contested verdictOf fewest most logRoom bookRoom inRange messageFits stampOf knows isKnown isApplied isWaiting
+    everywhere mayGo has recordFits unknowns gathered readyStamp newlyApplied remaining waitingIn allHeld gapless row
+    known ready standingAt waiting fresh holds countedIn clauses sound figures nowReady nowApplied tapsOf nowNoted
+    settle newRecord ownRows takeBook tapStops tapStep askStops answerOf ask send newOnes gossipRows hearBook
     gossipStops gossipStep flatMap
 says o = figures (o .reply)
 
@@ -79,7 +83,8 @@ waits = tapStep (counts .book) tapA (at 0 9 0)
 
 -- a fresh 1 gets A's tap in two records, of 0 and of 2, and both wait
 waitsTwice : Outcome
-waitsTwice = gossipStep (fresh 1 3) (message 0 3 (at 1 0 1) (saying tapA 0 1 (at 0 0 9) ∷ saying tapA 2 1 (at 9 0 0) ∷ []))
+waitsTwice = gossipStep (fresh 1 3)
+    (message 0 3 (at 1 0 1) (saying tapA 0 1 (at 0 0 9) ∷ saying tapA 2 1 (at 9 0 0) ∷ []))
 
 -- what the definitions give, beside what the document says
 pub starred : List (List ℕ × List ℕ)
@@ -147,7 +152,8 @@ ordered =
 -- where another stamp or record is near at hand
 pub judged : List (List ℕ × List ℕ)
 judged =
-    -- Already: a counted tap with the value stamp, not the known one; a waiting one with its first log record's, not the last's
+    -- Already: a counted tap with the value stamp, not the known one; a waiting one with its first log record's, not
+    -- the last's
     (says (tapStep (waits .book) tapB (at 0 0 0)), 6 ∷ at 1 0 0)
     ∷ (says (tapStep (waits .book) tapA (at 0 0 0)), 6 ∷ at 2 9 0)
     ∷ (says (tapStep (waitsTwice .book) tapA (at 0 0 0)), 6 ∷ at 1 0 9)

@@ -6,17 +6,17 @@ use mathlib.Core.Option.{Option, none, some}
 use lib.Dec.{ltb, leb, eqb}
 use lib.ListN.{set, getD, length}
 use Rattle.lists.specs.Tests.{exists, firstOf}
+use Rattle.limits.specs.Limits.{promptCount, bookRoom, logRoom}
 use Rattle.stamp.specs.Stamp.{Stamp, merge, part, replace, stampFits, total, atMost, excess}
-use Rattle.tally.specs.Limits.{promptCount}
-use Rattle.tally.specs.Standing.{countAll, afresh, among, verdictOf}
-use Rattle.tally.specs.Tap.{tapsIn, wordOf, tapFits, bodyFits}
+use Rattle.tally.specs.Body.{Body, says, bodyWord, bodyFits, tapsIn}
+use Rattle.tally.specs.Standing.{counting, among, verdictOf}
+use Rattle.tally.specs.Tap.{tapFits}
 use Rattle.tally.specs.declared.Standing.{Standing}
 use Rattle.tally.specs.declared.Tap.{Tap}
-use Rattle.ledger.specs.Limits.{bookRoom, logRoom}
-use Rattle.ledger.specs.Log.{newlyApplied, gathered, mergeAll, remaining, unknowns, gapless}
+use Rattle.ledger.specs.Log.{readyStamp, newlyApplied, gathered, mergeAll, remaining, unknowns, gapless}
 use Rattle.ledger.specs.Message.{inRange, Message, messageFits}
 use Rattle.ledger.specs.Record.{Record, stampOf}
-use Rattle.meaning.specs.Book.{Book, known, row, holds, sound, standingAt}
+use Rattle.meaning.specs.Book.{Book, known, ready, row, holds, sound, standingAt}
 use Rattle.meaning.specs.Reply.{Reply, refusal, already, taken, wait, verdict, gossiped}
 
 -- the answer, and the book that the step leaves
@@ -24,23 +24,28 @@ pub record Outcome : Type 0 where
   pub reply : Reply
   pub book : Book
 
--- A stop is a test with its reply. The reply given is that of the first stop, in order, whose test holds, and the book stays;
+-- A stop is a test with its reply. The reply given is that of the first stop, in order, whose test holds, and the book
+-- stays;
 -- with none the step is done.
 abbrev pub stopOr : Book → Outcome → Option Reply → Outcome
 stopOr b out none = out
 stopOr b out (some r) = record { reply = r; book = b }
 
--- The book put in order: the table is now `rows`, and the records `new` have come. A step adds newly applied records to the
--- counted taps and value stamp that it finds.
+-- The book put in order: the known stamp is now `s`, and the records `new` have come. These become applied:
+unfoldable pub nowReady : Book → Stamp → List Record → Stamp
+nowReady b s new = readyStamp s (gathered new (b .log))
+
 unfoldable pub nowApplied : Book → Stamp → List Record → List Record
-nowApplied b s new = newlyApplied (known b) s (gathered new (b .log))
+nowApplied b s new = newlyApplied (ready b) (nowReady b s new) (gathered new (b .log))
 
 unfoldable pub tapsOf : List Record → List Tap
 tapsOf rs = flatMap (λ r. tapsIn (r .body)) rs
 
-unfoldable pub nowCounted : Book → Stamp → List Record → List Tap
-nowCounted b s new = countAll (tapsOf (nowApplied b s new)) (b .counted)
+-- each tap of these that is not counted becomes counted, and is noted at its prompt
+unfoldable pub nowNoted : Book → Stamp → List Record → List Tap × List Standing
+nowNoted b s new = counting (tapsOf (nowApplied b s new)) (b .counted, b .prompts)
 
+-- The table is now `rows`. A step adds what becomes applied to the value stamp, counted taps and prompts that it finds.
 unfoldable pub settle : Book → List Stamp → List Record → Book
 settle b rows new =
     record {
@@ -48,9 +53,9 @@ settle b rows new =
       screens = b .screens;
       table = rows;
       value = mergeAll (nowApplied b (getD rows (b .me) []) new) (b .value);
-      log = remaining (getD rows (b .me) []) rows (gathered new (b .log));
-      counted = nowCounted b (getD rows (b .me) []) new;
-      prompts = afresh (nowCounted b (getD rows (b .me) []) new);
+      log = remaining (nowReady b (getD rows (b .me) []) new) rows (gathered new (b .log));
+      counted = (nowNoted b (getD rows (b .me) []) new) .0;
+      prompts = (nowNoted b (getD rows (b .me) []) new) .1;
     }
 
 -- Open writes the fresh book of screen i of N; `rightLength` says whether the lent book has the one fixed length
@@ -62,12 +67,19 @@ openStops rightLength i n =
     ∷ (not (inRange i n), refusal 2)
     ∷ []
 
--- Tap: raise the known stamp's part i by one, make the record, put the book in order
-unfoldable pub newRecord : Book → Tap → Stamp → Record
-newRecord b t l = record { origin = b .me; number = suc (part (known b) (b .me)); label = l; body = wordOf t }
+-- Taking a body: raise the known stamp's part i by one, make the record, put the book in order, answer Taken
+unfoldable pub newRecord : Book → Body → Stamp → Record
+newRecord b x l = record { origin = b .me; number = suc (part (known b) (b .me)); label = l; body = bodyWord x }
 
-unfoldable pub tapRows : Book → List Stamp
-tapRows b = set (b .table) (b .me) (replace (known b) (b .me) (suc (part (known b) (b .me))))
+unfoldable pub ownRows : Book → List Stamp
+ownRows b = set (b .table) (b .me) (replace (known b) (b .me) (suc (part (known b) (b .me))))
+
+-- the book that taking it leaves
+unfoldable pub takeBook : Book → Body → Stamp → Book
+takeBook b x l = settle b (ownRows b) (newRecord b x l ∷ [])
+
+abbrev pub takeOut : Book → Body → Stamp → Outcome
+takeOut b x l = record { reply = taken (stampOf (newRecord b x l)); book = takeBook b x l }
 
 -- the stamp of the first log record with the tap
 abbrev pub firstStamp : Tap → List Record → Stamp
@@ -95,8 +107,7 @@ tapStops b t l =
     ∷ []
 
 unfoldable pub tapStep : Book → Tap → Stamp → Outcome
-tapStep b t l =
-    stopOr b (record { reply = taken (stampOf (newRecord b t l)); book = settle b (tapRows b) (newRecord b t l ∷ []) }) (firstOf (tapStops b t l))
+tapStep b t l = stopOr b (takeOut b (says t) l) (firstOf (tapStops b t l))
 
 -- Question on a prompt
 unfoldable pub askStops : Book → ℕ → Stamp → List (Bool × Reply)
@@ -130,7 +141,8 @@ sendStops isSound need room =
     ∷ (ltb room need, refusal 12)
     ∷ []
 
--- Gossip from j with stamp m: keep the records not yet known, merge m into the known stamp, set row j to m, apply what is
+-- Gossip from j with stamp m: keep the records not yet known, merge m into the known stamp, set row j to m, apply what
+-- is
 -- ready, drop what may go
 unfoldable pub newOnes : Book → Message → List Record
 newOnes b m = unknowns (known b) (m .records)
@@ -160,12 +172,16 @@ gossipStops b m =
     ∷ (ltb logRoom (length (b .log) + length (newOnes b m)), refusal 9)
     ∷ []
 
--- the answer gives how many records were new, and how many became applied
-unfoldable pub gossipStep : Book → Message → Outcome
-gossipStep b m =
-    stopOr b
-    (record {
+-- the book that hearing it leaves; the answer gives how many records were new, and how many became applied
+unfoldable pub hearBook : Book → Message → Book
+hearBook b m = settle b (gossipRows b m) (newOnes b m)
+
+abbrev pub hearOut : Book → Message → Outcome
+hearOut b m =
+    record {
       reply = gossiped (length (newOnes b m)) (length (nowApplied b (merge (known b) (m .stamp)) (newOnes b m)));
-      book = settle b (gossipRows b m) (newOnes b m);
-    })
-    (firstOf (gossipStops b m))
+      book = hearBook b m;
+    }
+
+unfoldable pub gossipStep : Book → Message → Outcome
+gossipStep b m = stopOr b (hearOut b m) (firstOf (gossipStops b m))

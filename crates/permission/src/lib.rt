@@ -1,9 +1,9 @@
 // Permission, the rule that the car's functions use. It stands above the book and sees only what the book promises.
-use answers::Reply;
 use book::question;
+use promise::Reply;
 use tally::ACCEPTED;
 ghost use mathlib.Core.Path.{_≡_};
-ghost use Rattle.answers.specs.Lent.{questionOn};
+ghost use Rattle.promise.specs.Lent.{questionOn};
 ghost use Rattle.meaning.specs.Reply.{permits};
 
 // Yes exactly when the question is answered and the verdict is Accepted.

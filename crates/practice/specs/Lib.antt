@@ -1,5 +1,2 @@
-pub mod Compare
-pub mod CompareLaws
-pub mod File
-pub mod FileLaws
+-- The laws that the proofs cite.
 pub mod PlayLaws

@@ -1,4 +1,5 @@
--- Laws: what a turn of the small program says, compared with what is expected, where the whole input is read. Assumes nothing.
+-- Laws: what a turn of the small program says, compared with what is expected, where the whole input is read. Assumes
+-- nothing.
 --     never-reads   nothing more is asked for
 --     say-turn      what is said is compared, and then what is said to what is left
 --     last-turn, stop-turn   the last turn says all that is still to be said
@@ -15,10 +16,10 @@ use Rattle.program.specs.Turn.{Turned, turnOn, Turns}
 use Rattle.program.specs.TurnLaws.{turn-told}
 use Rattle.program.specs.declared.Turn.{Turn}
 use Rattle.program.specs.declared.Turn.the-variants.{Read, Say, Last, Stop}
-use Rattle.practice.specs.Compare.{comparedAt}
-use Rattle.practice.specs.CompareLaws.{to-end, thenAt, compared-none, compared-append}
-use Rattle.practice.specs.declared.compare.Outcome.{Outcome}
-use Rattle.practice.specs.declared.compare.Outcome.the-variants.{Same}
+use Rattle.vectors.specs.Compare.{comparedAt}
+use Rattle.vectors.specs.CompareLaws.{to-end, thenAt, compared-none, compared-append}
+use Rattle.vectors.specs.declared.compare.Outcome.{Outcome}
+use Rattle.vectors.specs.declared.compare.Outcome.the-variants.{Same}
 
 -- one turn: what is left of the input is lent from `at` on, and what is said so far ends at `place`
 module _ (words input out expected : List ℕ) (at place : ℕ) (opened : Bool) (t : Turn) (after bytes : List ℕ)
@@ -30,8 +31,8 @@ module _ (words input out expected : List ℕ) (at place : ℕ) (opened : Bool) 
   turned = turnOn words lent true opened
 
   -- what is lent is all that is left
-  left : lent ++ [] ≡ drop at input
-  left = append-nil lent ∙ to-end at input
+  lent-all : lent ++ [] ≡ drop at input
+  lent-all = append-nil lent ∙ to-end at input
 
   -- what is said stands at the output's front
   front : (k : ℕ) → k ≡ length (turned .says) → turned .says ≡ take (k - 0) bytes
@@ -44,25 +45,30 @@ module _ (words input out expected : List ℕ) (at place : ℕ) (opened : Bool) 
 
   pub say-turn :
       (used said : ℕ) → t ≡ Say used said → (o : Outcome) → o ≡ comparedAt place (take (said - 0) bytes) expected
-      → comparedAt place (saidIn opened words (drop at input)) expected ≡ thenAt o (saidIn true after (drop (at + used) input)) expected
+      → comparedAt place (saidIn opened words (drop at input)) expected
+      ≡ thenAt o (saidIn true after (drop (at + used) input)) expected
   say-turn used said e o q =
       let m = turn-told words lent true opened t after out bytes p (Say used said) e in
       let rest = saidIn true (turned .words) (drop used lent ++ []) in
-      let behind : drop used lent ++ [] ≡ drop (at + used) input = append-nil (drop used lent) ∙ ap (drop used) (to-end at input) ∙ drop-drop used at input in
-      ap (λ (l : List ℕ). comparedAt place (saidIn opened words l) expected) (sym left)
+      let behind : drop used lent ++ [] ≡ drop (at + used) input =
+      append-nil (drop used lent) ∙ ap (drop used) (to-end at input) ∙ drop-drop used at input in
+      ap (λ (l : List ℕ). comparedAt place (saidIn opened words l) expected) (sym lent-all)
       ∙ ap (λ (l : List ℕ). comparedAt place l expected) (m .0)
       ∙ compared-append place (turned .says) rest expected
-      ∙ ap₂ (λ (x : Outcome) (l : List ℕ). thenAt x l expected) (ap (λ (l : List ℕ). comparedAt place l expected) (front said (m .3)) ∙ sym q)
+      ∙ ap₂ (λ (x : Outcome) (l : List ℕ). thenAt x l expected)
+      (ap (λ (l : List ℕ). comparedAt place l expected) (front said (m .3)) ∙ sym q)
       (ap₂ (λ (ws l : List ℕ). saidIn true ws l) (sym (p .leaves)) behind)
 
-  pub last-turn : (said : ℕ) → t ≡ Last said → comparedAt place (saidIn opened words (drop at input)) expected ≡ comparedAt place (take (said - 0) bytes) expected
+  pub last-turn : (said : ℕ) → t ≡ Last said
+      → comparedAt place (saidIn opened words (drop at input)) expected
+      ≡ comparedAt place (take (said - 0) bytes) expected
   last-turn said e =
       let m = turn-told words lent true opened t after out bytes p (Last said) e in
-      ap (λ (l : List ℕ). comparedAt place (saidIn opened words l) expected) (sym left)
+      ap (λ (l : List ℕ). comparedAt place (saidIn opened words l) expected) (sym lent-all)
       ∙ ap (λ (l : List ℕ). comparedAt place l expected) (m .0 ∙ front said (m .1))
 
   pub stop-turn : t ≡ Stop → comparedAt place (saidIn opened words (drop at input)) expected ≡ Same place
   stop-turn e =
-      ap (λ (l : List ℕ). comparedAt place (saidIn opened words l) expected) (sym left)
+      ap (λ (l : List ℕ). comparedAt place (saidIn opened words l) expected) (sym lent-all)
       ∙ ap (λ (l : List ℕ). comparedAt place l expected) (turn-told words lent true opened t after out bytes p Stop e)
       ∙ compared-none place expected

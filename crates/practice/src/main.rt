@@ -1,20 +1,17 @@
-// Runs document 01's vectors: for each of the file that its argument names, whether the small program writes just what is expected.
-mod compare;
-mod file;
+// Plays the vectors of the file that its argument names: for each, whether document 01's small program writes just what
+// is expected.
 mod play;
 
-use compare::Outcome;
-use file::Entry;
-use file::Part;
-use file::entry_at;
 use libc::STDOUT_FILENO;
 use play::play;
+use vectors::compare::Outcome;
+use vectors::file::Entry;
+use vectors::file::FILE_ROOM;
+use vectors::file::Part;
+use vectors::file::entry_at;
 ghost use mathlib.Core.Path.{_≡_};
 ghost use lib.ListN.{length};
-ghost use Rattle.practice.specs.File.{Within, fileRoom};
-
-// Room for the longest file of vectors, and a byte more.
-const FILE_ROOM: usize = 900001;
+ghost use Rattle.vectors.specs.File.{Within, fileRoom};
 
 // A vector's line; whether it agrees.
 fn print_line(name: &[u8], outcome: Outcome) -> bool {
@@ -82,7 +79,7 @@ fn try_all(file: &[u8]) {
                 total += 1;
                 at = output.end;
             }
-            Entry::Last => {
+            Entry::End => {
                 print_total(agreed, total);
                 return;
             }

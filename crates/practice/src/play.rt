@@ -1,18 +1,18 @@
-// Document 01's small program in memory: the whole input is read at once, and what each turn says is compared as it comes.
-use crate::compare::Outcome;
-use crate::compare::compare_at;
-use crate::compare::end_at;
-use layout::BOOK;
+// Document 01's small program in memory: the input is read at once, and what each turn says is compared as it comes.
+use lent::BOOK;
 use program::Turn;
 use program::next_turn;
+use vectors::compare::Outcome;
+use vectors::compare::compare_at;
+use vectors::compare::end_at;
 use wire::LONGEST;
 ghost use mathlib.Core.Path.{_≡_};
 ghost use Prim.Native.Nat.{_≤_};
 ghost use lib.ListN.{length, replicate};
 ghost use Rattle.wire.specs.Kinds.{longest};
-ghost use Rattle.layout.specs.Words.{bookLong};
+ghost use Rattle.lent.specs.Words.{bookLong};
 ghost use Rattle.program.specs.Said.{saidBy};
-ghost use Rattle.practice.specs.Compare.{comparedAt, outcomeOf};
+ghost use Rattle.vectors.specs.Compare.{comparedAt, outcomeOf};
 
 // All that the program says to an input, compared piece by piece from the front on.
 fn follow(book: &mut [u64], input: &[u8], out: &mut [u8], expected: &[u8]) -> Outcome

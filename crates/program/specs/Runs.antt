@@ -1,4 +1,5 @@
--- A run of the small program: each read is answered with the next bytes of the input, in any pieces, until it stops. Assumes nothing.
+-- A run of the small program: each read is answered with the next bytes of the input, in any pieces, until it stops.
+-- Assumes nothing.
 use Prim.Native.Nat.{ℕ, _-_, _≤_}
 use mathlib.Core.Path.{_≡_}
 use mathlib.Core.Bool.{Bool, true, false}
@@ -7,7 +8,8 @@ use lib.ListN.{length, take, drop}
 use Rattle.program.specs.Turn.{Turned, turnOn}
 use Rattle.program.specs.declared.Turn.the-variants.{Read, Say, Last, Stop}
 
--- what the loop that drives it holds: the book's words, what is read and not yet used, what is still to come, whether the end is met,
+-- what the loop that drives it holds: the book's words, what is read and not yet used, what is still to come, whether
+-- the end is met,
 -- whether the book is open, and all that is said so far
 pub record Desk : Type 0 where
   pub words : List ℕ
@@ -37,7 +39,14 @@ afterRead d k =
     }
 
 abbrev pub afterEnd : Desk → Desk
-afterEnd d = record { words = d .words; read = d .read; rest = d .rest; ended = true; opened = d .opened; said = d .said }
+afterEnd d = record {
+  words = d .words;
+  read = d .read;
+  rest = d .rest;
+  ended = true;
+  opened = d .opened;
+  said = d .said;
+}
 
 abbrev pub afterSay : Desk → ℕ → Desk
 afterSay d used =
@@ -50,10 +59,12 @@ afterSay d used =
       said = d .said ++ turnAt d .says;
     }
 
--- A read is answered with at least one of the bytes that come next and at most as many as it asks for, or, where none come, with the
+-- A read is answered with at least one of the bytes that come next and at most as many as it asks for, or, where none
+-- come, with the
 -- end. What a message says is said, and reading goes on.
 pub data Goes : Desk → Desk → Type 0 where
-  reads : {d : Desk} (n k : ℕ) → turnAt d .turn ≡ Read n → 1 ≤ k → k ≤ n - length (d .read) → k ≤ length (d .rest) → Goes d (afterRead d k)
+  reads : {d : Desk} (n k : ℕ) → turnAt d .turn ≡ Read n → 1 ≤ k → k ≤ n - length (d .read) → k ≤ length (d .rest)
+      → Goes d (afterRead d k)
   ends : {d : Desk} (n : ℕ) → turnAt d .turn ≡ Read n → d .rest ≡ [] → Goes d (afterEnd d)
   says : {d : Desk} (used k : ℕ) → turnAt d .turn ≡ Say used k → Goes d (afterSay d used)
 

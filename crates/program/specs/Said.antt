@@ -8,8 +8,8 @@ use Rattle.meaning.specs.Reply.{Reply, refusal}
 use Rattle.frames.specs.Next.{nextOf}
 use Rattle.frames.specs.declared.Frame.{Frame}
 use Rattle.frames.specs.declared.Frame.the-variants.{More, Whole, Stop}
-use Rattle.speech.specs.Speech.{bytesFor}
-use Rattle.answering.specs.Answer.{doneOn, openFrom}
+use Rattle.answer.specs.Speech.{bytesFor}
+use Rattle.answer.specs.Answer.{doneOn, openFrom}
 
 -- no more bytes come: an end inside a message is as an unexpected kind or a count above 256
 abbrev pub onWhole : Frame → List ℕ → (ℕ → List ℕ) → List ℕ
@@ -21,7 +21,8 @@ onWhole Stop broken whole = broken
 abbrev pub bad : List ℕ
 bad = bytesFor (refusal 1)
 
--- an open book's replies to all that is left, of at most so many messages; an end between messages stops it without a word
+-- an open book's replies to all that is left, of at most so many messages; an end between messages stops it without a
+-- word
 unfoldable pub saidTo : ℕ → List ℕ → List ℕ → List ℕ
 saidTo zero words rest = []
 saidTo (suc most) words [] = []

@@ -15,12 +15,13 @@ use Rattle.frames.specs.Next.{nextOf}
 use Rattle.frames.specs.NextLaws.{next-whole}
 use Rattle.frames.specs.declared.Frame.{Frame}
 use Rattle.frames.specs.declared.Frame.the-variants.{More, Whole, Stop}
-use Rattle.speech.specs.Speech.{bytesFor}
-use Rattle.answering.specs.Answer.{doneOn, openFrom}
+use Rattle.answer.specs.Speech.{bytesFor}
+use Rattle.answer.specs.Answer.{doneOn, openFrom}
 use Rattle.program.specs.Said.{onWhole, bad, saidTo, saidFrom, saidBy}
 
 -- what is left after a message is shorter
-fewer : (x : ℕ) (left : List ℕ) (m n : ℕ) → nextOf (x ∷ left) true ≡ Whole n → length (x ∷ left) ≤ suc m → length (drop n (x ∷ left)) ≤ m
+fewer : (x : ℕ) (left : List ℕ) (m n : ℕ) → nextOf (x ∷ left) true ≡ Whole n → length (x ∷ left) ≤ suc m
+    → length (drop n (x ∷ left)) ≤ m
 fewer x left m n e l = omega (arith, next-whole (x ∷ left) true n e .0, length-drop n (x ∷ left))
 
 -- as many turns as bytes are enough
@@ -33,7 +34,8 @@ more-turns (suc f) zero ws [] h k = refl
 more-turns (suc f) zero ws (x ∷ left) h k = absurd (omega arith)
 more-turns (suc f) (suc g) ws [] h k = refl
 more-turns (suc f) (suc g) ws (x ∷ left) h k =
-    go (λ n e. more-turns f g (doneOn ws (take n (x ∷ left)) .words) (drop n (x ∷ left)) (fewer x left f n e h) (fewer x left g n e k))
+    go (λ n e. more-turns f g (doneOn ws (take n (x ∷ left)) .words) (drop n (x ∷ left)) (fewer x left f n e h)
+    (fewer x left g n e k))
     (nextOf (x ∷ left) true) refl
   where
     says : ℕ → List ℕ
@@ -42,7 +44,8 @@ more-turns (suc f) (suc g) ws (x ∷ left) h k =
     after : ℕ → ℕ → List ℕ
     after most n = saidTo most (doneOn ws (take n (x ∷ left)) .words) (drop n (x ∷ left))
 
-    go : ((n : ℕ) → nextOf (x ∷ left) true ≡ Whole n → after f n ≡ after g n) → (next : Frame) → nextOf (x ∷ left) true ≡ next
+    go : ((n : ℕ) → nextOf (x ∷ left) true ≡ Whole n → after f n ≡ after g n) → (next : Frame)
+        → nextOf (x ∷ left) true ≡ next
         → onWhole next bad (λ n. says n ++ after f n) ≡ onWhole next bad (λ n. says n ++ after g n)
     go same (More n) e = refl
     go same (Whole n) e = ap (λ (l : List ℕ). says n ++ l) (same n e)
@@ -53,7 +56,8 @@ module _ (ws : List ℕ) where
   unfolding saidTo
   said-end = refl
 
-  pub said-broken : (left : List ℕ) (f : Frame) → 0 < length left → nextOf left true ≡ f → ((n : ℕ) → f ≡ Whole n → ⊥) → saidFrom ws left ≡ bad
+  pub said-broken : (left : List ℕ) (f : Frame) → 0 < length left → nextOf left true ≡ f → ((n : ℕ) → f ≡ Whole n → ⊥)
+      → saidFrom ws left ≡ bad
   unfolding saidTo
   said-broken [] f h e never = absurd (omega arith)
   said-broken (x ∷ left) (More n) h e never = rw e
@@ -68,7 +72,8 @@ module _ (ws : List ℕ) where
       let done = doneOn ws (take n (x ∷ left)) in
       let after = drop n (x ∷ left) in
       let shorter = fewer x left (length left) n e (omega arith) in
-      rw e (ap (λ (l : List ℕ). done .says ++ l) (more-turns (length left) (length after) (done .words) after shorter (omega arith)))
+      rw e (ap (λ (l : List ℕ). done .says ++ l)
+      (more-turns (length left) (length after) (done .words) after shorter (omega arith)))
 
 -- kind 11 first
 module _ (ws input : List ℕ) where
@@ -83,6 +88,7 @@ module _ (ws input : List ℕ) where
     unfolding saidBy
     begin-refused r q = rw (e, q)
 
-    pub begin-opened : openFrom ws (take n input) .refused ≡ none → saidBy ws input ≡ saidFrom (openFrom ws (take n input) .words) (drop n input)
+    pub begin-opened : openFrom ws (take n input) .refused ≡ none
+        → saidBy ws input ≡ saidFrom (openFrom ws (take n input) .words) (drop n input)
     unfolding saidBy
     begin-opened q = rw (e, q)

@@ -1,4 +1,5 @@
--- What the small program does next, of the book, what is read and not yet used, whether the input has ended and whether the book is
+-- What the small program does next, of the book, what is read and not yet used, whether the input has ended and whether
+-- the book is
 -- open. Assumes nothing.
 use Prim.Native.Nat.{ℕ}
 use mathlib.Core.Path.{_≡_}
@@ -11,8 +12,8 @@ use Rattle.meaning.specs.Reply.{Reply}
 use Rattle.frames.specs.Next.{nextOf}
 use Rattle.frames.specs.declared.Frame.{Frame}
 use Rattle.frames.specs.declared.Frame.the-variants as frame
-use Rattle.speech.specs.Speech.{bytesFor}
-use Rattle.answering.specs.Answer.{doneOn, openFrom}
+use Rattle.answer.specs.Speech.{bytesFor}
+use Rattle.answer.specs.Answer.{doneOn, openFrom}
 use Rattle.program.specs.Said.{bad}
 use Rattle.program.specs.declared.Turn.{Turn}
 use Rattle.program.specs.declared.Turn.the-variants.{Read, Say, Last, Stop}
@@ -35,11 +36,13 @@ quietTurn turn words = record { turn = turn; words = words; says = [] }
 abbrev pub sayTurn : ℕ → List ℕ → List ℕ → Turned
 sayTurn used words says = record { turn = Say used (length says); words = words; says = says }
 
--- more bytes are needed: they are read; but an end between messages stops it without a word, and any other end is an end inside a
+-- more bytes are needed: they are read; but an end between messages stops it without a word, and any other end is an
+-- end inside a
 -- message or before kind 11
 abbrev pub moreTurn : List ℕ → List ℕ → Bool → Bool → ℕ → Turned
 moreTurn words read ended opened n =
-    cond ended (cond (opened && eqb (length read) 0) (quietTurn Stop words) (lastTurn words bad)) (quietTurn (Read n) words)
+    cond ended (cond (opened && eqb (length read) 0) (quietTurn Stop words) (lastTurn words bad))
+    (quietTurn (Read n) words)
 
 -- kind 11 says nothing, or its refusal, which stops the program
 abbrev pub openTurn : ℕ → Option Reply → List ℕ → Turned

@@ -21,7 +21,7 @@ use Rattle.frames.specs.Next.{nextOf}
 use Rattle.frames.specs.NextLaws.{next-whole, next-more, next-settled}
 use Rattle.frames.specs.declared.Frame.{Frame}
 use Rattle.frames.specs.declared.Frame.the-variants as frame
-use Rattle.answering.specs.Answer.{doneOn, openFrom}
+use Rattle.answer.specs.Answer.{doneOn, openFrom}
 use Rattle.program.specs.Said.{bad, saidFrom, saidIn}
 use Rattle.program.specs.SaidLaws.{said-end, said-broken, said-turn, begin-broken, begin-refused, begin-opened}
 use Rattle.program.specs.Turn.{Turned, lastTurn, quietTurn, openTurn, messageTurn, turnBy, turnOn, Turns}
@@ -45,24 +45,29 @@ module _ (words read rest : List ℕ) (ended opened : Bool) (over : T ended → 
   abbrev all : List ℕ
   all = read ++ rest
 
-  -- More is asked for only before the end, and never more than the longest message has. A message's part of what is said comes first,
+  -- More is asked for only before the end, and never more than the longest message has. A message's part of what is
+  -- said comes first,
   -- and what is left has the rest. The last turn says all that is still to be said; without a word it is nothing.
   abbrev pub Means : Turn → Turned → Type 0
   Means (Read n) o = (ended ≡ false) × (length read < n) × (n ≤ longest)
   Means (Say n k) o =
-      (saidIn opened words all ≡ o .says ++ saidIn true (o .words) (drop n read ++ rest)) × (1 ≤ n) × (n ≤ length read) × (k ≡ length (o .says))
+      (saidIn opened words all ≡ o .says ++ saidIn true (o .words) (drop n read ++ rest)) × (1 ≤ n) × (n ≤ length read)
+      × (k ≡ length (o .says))
   Means (Last k) o = (saidIn opened words all ≡ o .says) × (k ≡ length (o .says))
   Means Stop o = saidIn opened words all ≡ []
 
-  broken-said : (f : Frame) → nextOf all opened ≡ f → ((n : ℕ) → f ≡ frame.Whole n → ⊥) → (T opened → 0 < length all) → saidIn opened words all ≡ bad
+  broken-said : (f : Frame) → nextOf all opened ≡ f → ((n : ℕ) → f ≡ frame.Whole n → ⊥) → (T opened → 0 < length all)
+      → saidIn opened words all ≡ bad
   broken-said f e never more = go opened e more
     where
       go : (c : Bool) → nextOf all c ≡ f → (T c → 0 < length all) → saidIn c words all ≡ bad
       go true q s = said-broken words all f (s tt) q never
       go false q s = begin-broken words all f q never
 
-  more-means : (n : ℕ) → nextOf read opened ≡ frame.More n → (c : Bool) → ended ≡ c → (d : Bool) → (opened && eqb (length read) 0) ≡ d
-      → let o = cond c (cond d (quietTurn Stop words) (lastTurn words bad)) (quietTurn (Read n) words) in Means (o .turn) o
+  more-means : (n : ℕ) → nextOf read opened ≡ frame.More n → (c : Bool) → ended ≡ c → (d : Bool)
+      → (opened && eqb (length read) 0) ≡ d
+      → let o = cond c (cond d (quietTurn Stop words) (lastTurn words bad)) (quietTurn (Read n) words) in
+      Means (o .turn) o
   more-means n e false f d g = let m = next-more read opened n e in (f, m .0, m .1)
   more-means n e true f d g = ends (over (subst T (sym f) tt)) d g
     where
@@ -108,7 +113,8 @@ module _ (words read rest : List ℕ) (ended opened : Bool) (over : T ended → 
     used : (1 ≤ length (take n read)) × (length (take n read) ≤ length read)
     used = (omega (arith, within .0, long), omega (arith, within .1, long))
 
-    opened-at : (c : Bool) → opened ≡ c → (saidIn opened words all ≡ saidIn c words all) × (nextOf all c ≡ frame.Whole n)
+    opened-at : (c : Bool) → opened ≡ c
+        → (saidIn opened words all ≡ saidIn c words all) × (nextOf all c ≡ frame.Whole n)
     opened-at c f = (ap (λ (x : Bool). saidIn x words all) f, ap (nextOf all) (sym f) ∙ still)
 
     replied : opened ≡ true
@@ -116,7 +122,8 @@ module _ (words read rest : List ℕ) (ended opened : Bool) (over : T ended → 
         saidIn opened words all ≡ done .says ++ saidFrom (done .words) (drop (length (take n read)) read ++ rest)
     replied f =
         let o = opened-at true f in
-        o .0 ∙ said-turn words all n (o .1) ∙ ap₂ (λ (m l : List ℕ). doneOn words m .says ++ saidFrom (doneOn words m .words) l) front behind
+        o .0 ∙ said-turn words all n (o .1)
+        ∙ ap₂ (λ (m l : List ℕ). doneOn words m .says ++ saidFrom (doneOn words m .words) l) front behind
 
     opens : opened ≡ false → (r : Option Reply) → openFrom words (take n read) .refused ≡ r
         → let t = openTurn (length (take n read)) r (openFrom words (take n read) .words) in Means (t .turn) t
@@ -138,7 +145,8 @@ module _ (words read rest : List ℕ) (ended opened : Bool) (over : T ended → 
 
   stop-means : nextOf read opened ≡ frame.Stop → (saidIn opened words all ≡ bad) × (length bad ≡ length bad)
   stop-means e = (
-    broken-said frame.Stop (next-settled read rest opened (subst (λ (f : Frame). T (told f)) (sym e) tt) ∙ e) stop-not-whole
+    broken-said frame.Stop (next-settled read rest opened (subst (λ (f : Frame). T (told f)) (sym e) tt) ∙ e)
+        stop-not-whole
         (λ t. omega (arith, stop-some read opened e, length-append read rest)),
     refl,
   )
@@ -152,14 +160,16 @@ module _ (words read rest : List ℕ) (ended opened : Bool) (over : T ended → 
       go (frame.Whole n) e = message-means n e opened refl
       go frame.Stop e = stop-means e
 
--- what a turn asks for and says is within what the loop that drives it has: more is read only up to the longest message, and what is
+-- what a turn asks for and says is within what the loop that drives it has: more is read only up to the longest
+-- message, and what is
 -- said stands in the output
 module _ (words read : List ℕ) (ended opened : Bool) (t : Turn) (after out bytes : List ℕ)
     (p : Turns (turnOn words read ended opened) t after out bytes) where
   -- what the turn that was given tells of an input that ends here
   pub turn-told : (x : Turn) → t ≡ x → Means words read [] ended opened (λ e. refl) x (turnOn words read ended opened)
   turn-told x e =
-      subst (λ (y : Turn). Means words read [] ended opened (λ e. refl) y (turnOn words read ended opened)) (sym (p .gives) ∙ e)
+      subst (λ (y : Turn). Means words read [] ended opened (λ e. refl) y (turnOn words read ended opened))
+      (sym (p .gives) ∙ e)
       (turn-means words read [] ended opened (λ e. refl))
 
   said-stands : (k : ℕ) → k ≡ length (turnOn words read ended opened .says) → k ≤ length bytes
@@ -178,6 +188,8 @@ module _ (words read : List ℕ) (ended opened : Bool) (t : Turn) (after out byt
 
 -- two turns that both meet the promise are equal
 pub one-turn :
-    (o : Turned) (turn turn′ : Turn) (words words′ out bytes bytes′ : List ℕ) → Turns o turn words out bytes → Turns o turn′ words′ out bytes′
+    (o : Turned) (turn turn′ : Turn) (words words′ out bytes bytes′ : List ℕ) → Turns o turn words out bytes
+    → Turns o turn′ words′ out bytes′
     → (turn ≡ turn′) × (words ≡ words′) × (bytes ≡ bytes′)
-one-turn o turn turn′ words words′ out bytes bytes′ p q = (p .gives ∙ sym (q .gives), p .leaves ∙ sym (q .leaves), p .writes ∙ sym (q .writes))
+one-turn o turn turn′ words words′ out bytes bytes′ p q =
+    (p .gives ∙ sym (q .gives), p .leaves ∙ sym (q .leaves), p .writes ∙ sym (q .writes))

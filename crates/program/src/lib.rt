@@ -1,11 +1,12 @@
-// The decisions of document 01's small program: what it does next, given the book, what is read so far, and whether the input has ended.
-use answering::answer;
-use answering::open_from;
-use answers::Reply;
+// The decisions of document 01's small program: what it does next, given the book, what is read so far, and whether the
+// input has ended.
+use answer::answer;
+use answer::open_from;
+use answer::speak;
 use frames::Frame;
 use frames::next_in;
-use opening::Opening;
-use speech::speak;
+use open_step::Opening;
+use promise::Reply;
 use wire::BAD;
 use wire::Written;
 ghost use mathlib.Core.Path.{_≡_};
@@ -16,11 +17,12 @@ ghost use lib.Dec.{T, eqb};
 ghost use lib.ListN.{length, drop};
 ghost use Rattle.wire.specs.Kinds.{longest};
 ghost use Rattle.meaning.specs.Reply.{refusal};
-ghost use Rattle.speech.specs.Speech.{bytesFor, sayable};
+ghost use Rattle.answer.specs.Speech.{bytesFor, sayable};
 ghost use Rattle.program.specs.Turn.{moreTurn, messageTurn, turnOn, Turns};
 ghost use Rattle.program.specs.declared.Turn.the-variants.{Last};
 
-// Read until so many bytes are there in all, or the input ends; so many bytes of what is read are used up, and so many at the output's
+// Read until so many bytes are there in all, or the input ends; so many bytes of what is read are used up, and so many
+// at the output's
 // front are said; so many are said, and the program stops; it stops without a word.
 pub enum Turn {
     Read(usize),
@@ -34,7 +36,8 @@ fn last_refusal(number: u64, out: &mut [u8]) -> Turn
     requires { ⌜ T (sayable (refusal number)) ⌝ }
     requires { ⌜ longest ≤ length (now out) ⌝ }
     ensures { λ r. ⌜ r ≡ Last (length (bytesFor (refusal number))) ⌝ }
-    ensures { λ _. ⌜ now (out .exit) ≡ bytesFor (refusal number) ++ drop (length (bytesFor (refusal number))) (now (out .entry)) ⌝ }
+    ensures { λ _. ⌜ now (out .exit)
+        ≡ bytesFor (refusal number) ++ drop (length (bytesFor (refusal number))) (now (out .entry)) ⌝ }
 {
     let wrote = speak(Reply::Refused(number), out);
     match wrote {
@@ -56,7 +59,8 @@ fn is_between(read: &[u8], opened: bool) -> bool
 // What is read is no whole message yet, which needs n bytes.
 fn more_turn(book: &[u64], read: &[u8], ended: bool, opened: bool, n: usize, out: &mut [u8]) -> Turn
     requires { ⌜ longest ≤ length (now out) ⌝ }
-    ensures { λ r. ⌜ Turns (moreTurn (now (book .entry)) (now (read .entry)) ended opened n) r (now (book .entry)) (now (out .entry)) (now (out .exit)) ⌝ }
+    ensures { λ r. ⌜ Turns (moreTurn (now (book .entry)) (now (read .entry)) ended opened n) r (now (book .entry))
+        (now (out .entry)) (now (out .exit)) ⌝ }
 {
     if !ended {
         return Turn::Read(n);
@@ -70,7 +74,8 @@ fn more_turn(book: &[u64], read: &[u8], ended: bool, opened: bool, n: usize, out
 // The first message opens the book.
 fn open_turn(book: &mut [u64], msg: &[u8], out: &mut [u8]) -> Turn
     requires { ⌜ longest ≤ length (now out) ⌝ }
-    ensures { λ r. ⌜ Turns (messageTurn (now (book .entry)) (now (msg .entry)) false) r (now (book .exit)) (now (out .entry)) (now (out .exit)) ⌝ }
+    ensures { λ r. ⌜ Turns (messageTurn (now (book .entry)) (now (msg .entry)) false) r (now (book .exit))
+        (now (out .entry)) (now (out .exit)) ⌝ }
 {
     let opening = open_from(book, msg);
     match opening {
@@ -85,7 +90,8 @@ fn open_turn(book: &mut [u64], msg: &[u8], out: &mut [u8]) -> Turn
 // A whole message: kind 11 first, then requests, each with its reply.
 fn message_turn(book: &mut [u64], msg: &[u8], opened: bool, out: &mut [u8]) -> Turn
     requires { ⌜ longest ≤ length (now out) ⌝ }
-    ensures { λ r. ⌜ Turns (messageTurn (now (book .entry)) (now (msg .entry)) opened) r (now (book .exit)) (now (out .entry)) (now (out .exit)) ⌝ }
+    ensures { λ r. ⌜ Turns (messageTurn (now (book .entry)) (now (msg .entry)) opened) r (now (book .exit))
+        (now (out .entry)) (now (out .exit)) ⌝ }
 {
     if !opened {
         return open_turn(book, msg, out);
@@ -100,7 +106,8 @@ fn message_turn(book: &mut [u64], msg: &[u8], opened: bool, out: &mut [u8]) -> T
 // What the program does next: `read` is what is read and not yet used, `out` has room for the longest message.
 pub fn next_turn(book: &mut [u64], read: &[u8], ended: bool, opened: bool, out: &mut [u8]) -> Turn
     requires { ⌜ longest ≤ length (now out) ⌝ }
-    ensures { λ r. ⌜ Turns (turnOn (now (book .entry)) (now (read .entry)) ended opened) r (now (book .exit)) (now (out .entry)) (now (out .exit)) ⌝ }
+    ensures { λ r. ⌜ Turns (turnOn (now (book .entry)) (now (read .entry)) ended opened) r (now (book .exit))
+        (now (out .entry)) (now (out .exit)) ⌝ }
 {
     let frame = next_in(read, opened);
     match frame {

@@ -11,7 +11,7 @@ use borrow.Author.Tests.{eq-eqb, ne-eqb}
 use Rattle.lists.specs.FirstScan.{first-rest, first-end}
 use Rattle.lists.specs.Order.{sameKey}
 use Rattle.lists.specs.Scan.{rest}
-use Rattle.tally.specs.Limits.{promptCount, countLimit}
+use Rattle.limits.specs.Limits.{promptCount, countLimit}
 use Rattle.tally.specs.Standing.{CountsFit, afresh, blank}
 use Rattle.tally.specs.StandingLaws.{afresh-at, standing-few}
 use Rattle.tally.specs.Tap.{tapOf}
@@ -36,10 +36,12 @@ module _ (taps : List ℕ) (n i : ℕ) (room : n ≤ length taps) where
   noted-fits p h few =
       let ts = map tapOf (drop i (take n taps)) in
       let l : length ts ≤ n = simp (length-map, length-drop) (rw (length-take-le n taps room) (omega arith)) in
-      subst CountsFit (sym (afresh-at ts p h)) (record { accepts = omega (arith, standing-few ts p); declines = omega (arith, standing-few ts p) })
+      subst CountsFit (sym (afresh-at ts p h))
+      (record { accepts = omega (arith, standing-few ts p); declines = omega (arith, standing-few ts p) })
 
 module _ (a b : List ℕ) (i : ℕ) (ha : i < length a) (hb : i < length b) where
-  same-step : sameKey (drop i a) (drop i b) ≡ (eqb (getD a i 0) (getD b i 0) && sameKey (drop (i + 1) a) (drop (i + 1) b))
+  same-step : sameKey (drop i a) (drop i b)
+      ≡ (eqb (getD a i 0) (getD b i 0) && sameKey (drop (i + 1) a) (drop (i + 1) b))
   same-step = rw (rest a i ha, rest b i hb)
 
   pub same-on : getD a i 0 ≡ getD b i 0 → sameKey (drop i a) (drop i b) ≡ sameKey (drop (i + 1) a) (drop (i + 1) b)

@@ -1,9 +1,9 @@
 -- The prompts' standings as words: three for each prompt (showing, accepts, declines). Assumes nothing.
-use Prim.Native.Nat.{ℕ}
+use Prim.Native.Nat.{ℕ, _*_}
 use mathlib.Core.List.{List, map}
 use lib.ListN.{getD, set}
 use Rattle.lists.specs.Rows.{rows, flat}
-use Rattle.tally.specs.Limits.{promptCount}
+use Rattle.limits.specs.Limits.{promptCount}
 use Rattle.tally.specs.Standing.{blank, counts, noted}
 use Rattle.tally.specs.declared.Standing.{Standing}
 use Rattle.tally.specs.declared.Tap.{Tap}
@@ -13,7 +13,7 @@ abbrev pub standingLong : ℕ
 standingLong = 3
 
 abbrev pub promptWords : ℕ
-promptWords = 192
+promptWords = promptCount * standingLong
 
 -- the standing that a cell of three words holds
 abbrev pub standingIn : List ℕ → Standing

@@ -1,4 +1,5 @@
 // The prompts in their region of a book: for each the showing, accepts and declines.
+use limits::PROMPTS;
 use tally::Standing;
 use tally::noted;
 use tally::unpack;
@@ -7,16 +8,16 @@ ghost use mathlib.Core.List.{[]};
 ghost use Prim.Native.Nat.{_+_, _*_, _≤_, _<_};
 ghost use lib.ListN.{length, getD, set};
 ghost use Rattle.lists.specs.Order.{sameKey};
-ghost use Rattle.tally.specs.Limits.{promptCount, countLimit};
+ghost use Rattle.limits.specs.Limits.{promptCount, countLimit};
 ghost use Rattle.tally.specs.Standing.{CountsFit, blank, afresh, sameCounts};
 ghost use Rattle.tally.specs.Tap.{tapOf};
-ghost use Rattle.counted.specs.Region.{tapsAt};
+ghost use Rattle.taps.specs.Region.{tapsAt};
 ghost use Rattle.prompts.specs.Region.{standingLong, promptWords, standingsAt, standingWords, notedAt};
 
 // How many words a standing takes, and all of them.
 const STANDING_LONG: usize = 3;
 
-pub const PROMPT_WORDS: usize = 192;
+pub const PROMPT_WORDS: usize = PROMPTS as usize * STANDING_LONG;
 
 // Where a prompt's standing begins.
 fn place_of(p: u64) -> usize
@@ -62,7 +63,8 @@ pub fn note(r: &mut [u64], w: u64)
     put_standing(r, t.prompt, noted(t, s));
 }
 
-// Notes the first n taps in a table that holds none: from the last to the first, so that those noted are always the rest.
+// Notes the first n taps in a table that holds none: from the last to the first, so that those noted are always the
+// rest.
 fn tabulate(table: &mut [u64], taps: &[u64], n: usize)
     requires { ⌜ length (now table) ≡ promptWords ⌝ }
     requires { ⌜ standingsAt (now table) ≡ afresh [] ⌝ }

@@ -12,7 +12,8 @@ use Rattle.wire.specs.Read.{lineOf, readable, readAs}
 use Rattle.replies.specs.Which.{kindAmong, isMessage}
 
 -- every line of the kind says a message, and the reader's answer was asked whether it is one
-module _ (k : Kind) (says : (line : List ℕ) → isMessage (k .said line) ≡ true) (bytes : List ℕ) {v : Said} (read : v ≡ readAs k bytes)
+module _ (k : Kind) (says : (line : List ℕ) → isMessage (k .said line) ≡ true) (bytes : List ℕ) {v : Said}
+    (read : v ≡ readAs k bytes)
     {answer : Bool} (asked : answer ≡ isMessage v) where
   answers : answer ≡ readable k bytes
   unfolding readAs isMessage

@@ -1,14 +1,18 @@
 // Replies: the six messages that a screen answers with, each with its reader and its writer.
-use fields::read_fields;
+use limits::PARTS;
+use numbers::read_fields;
 use stamp::Parts;
 use stamp::parts_at;
+use stamp::put_parts;
 use tally::CONTESTED;
 use tally::UNASKED;
 use wire::ALREADY;
 use wire::BAD;
+use wire::BITS_WIDTH;
 use wire::GOSSIP_TAKEN;
 use wire::GOSSIP_TAKEN_BODY;
 use wire::KIND_SIZE;
+use wire::PART_WIDTH;
 use wire::REFUSAL;
 use wire::REFUSAL_BODY;
 use wire::Said;
@@ -25,29 +29,39 @@ ghost use mathlib.Core.Path.{_≡_};
 ghost use mathlib.Core.List.{_∷_};
 ghost use lib.Dec.{leb};
 ghost use Rattle.stamp.specs.Parts.{listOf};
-ghost use Rattle.wire.specs.Kinds.{stampBody, takenKind, alreadyKind, verdictKind, waitKind, refusalKind, gossipTakenKind, inTable};
+ghost use Rattle.wire.specs.Kinds.{stampBody, verdictBody, inTable};
+ghost use Rattle.wire.specs.Kinds.{takenKind, alreadyKind, verdictKind, waitKind, refusalKind, gossipTakenKind};
 ghost use Rattle.wire.specs.Read.{readAs};
 ghost use Rattle.wire.specs.Said.{figures};
 ghost use Rattle.wire.specs.Write.{Meets, putLine, writeAs};
 ghost use Rattle.wire.specs.declared.Said.the-variants as said;
 ghost use Rattle.replies.specs.Which.{isMessage, replyKind};
 
-// A line holds the kind, then the fields; each message is as long as its widths together.
-const STAMP_LINE: usize = 9;
+// Where the fields stand in a line: the kind first, a stamp in as many places as it has parts.
+const KIND: usize = 0;
 
-const STAMP_WIDTHS: [usize; STAMP_LINE] = [1, 4, 4, 4, 4, 4, 4, 4, 4];
+const FIRST: usize = 1;
+
+const SECOND: usize = 2;
+
+const THIRD: usize = 3;
+
+const FOURTH: usize = 4;
+
+const FIFTH: usize = 5;
+
+// How many places a line has, and how many bytes its message. With a stamp its widths come from a function.
+const STAMP_LINE: usize = FIRST + PARTS;
 
 const STAMP_SIZE: usize = KIND_SIZE + TAKEN_BODY;
 
-const VERDICT_LINE: usize = 13;
-
-const VERDICT_WIDTHS: [usize; VERDICT_LINE] = [1, 1, 2, 4, 4, 4, 4, 4, 4, 4, 4, 4, 4];
+const VERDICT_LINE: usize = FIFTH + PARTS;
 
 const VERDICT_SIZE: usize = KIND_SIZE + VERDICT_BODY;
 
 const WAIT_LINE: usize = 2;
 
-const WAIT_WIDTHS: [usize; WAIT_LINE] = [1, 1];
+const WAIT_WIDTHS: [usize; WAIT_LINE] = [KIND_SIZE, BITS_WIDTH];
 
 const WAIT_SIZE: usize = KIND_SIZE + WAIT_BODY;
 
@@ -63,17 +77,6 @@ const GOSSIP_TAKEN_WIDTHS: [usize; GOSSIP_TAKEN_LINE] = [1, 2, 2];
 
 const GOSSIP_TAKEN_SIZE: usize = KIND_SIZE + GOSSIP_TAKEN_BODY;
 
-// Where the fields stand in a line.
-const FIRST: usize = 1;
-
-const SECOND: usize = 2;
-
-const THIRD: usize = 3;
-
-const FOURTH: usize = 4;
-
-const FIFTH: usize = 5;
-
 // The refusals of document 01's table: ten is not used.
 const FIRST_REFUSAL: u64 = 1;
 
@@ -86,14 +89,24 @@ const LAST_REFUSAL: u64 = 12;
 // No reply has this kind.
 const NO_REPLY: u8 = 0;
 
+// A line's widths, for its reader and its writer alike: a stamp's fill the line, the others are set over them.
+fn stamp_widths() -> [usize; STAMP_LINE]
+    ensures { λ r. ⌜ r ≡ 1 ∷ stampBody ⌝ }
+{
+    let mut ws = [PART_WIDTH; STAMP_LINE];
+    ws[KIND] = KIND_SIZE;
+    ws
+}
+
 pub fn read_taken(msg: &[u8]) -> Said
     ensures { λ r. ⌜ r ≡ readAs takenKind (now (msg .entry)) ⌝ }
 {
     if !is_kind(msg, TAKEN) {
         return Said::Unreadable(BAD);
     }
+    let ws = stamp_widths();
     let mut line = [0u64; STAMP_LINE];
-    read_fields(&mut line, &STAMP_WIDTHS, msg);
+    read_fields(&mut line, &ws, msg);
     Said::Taken(parts_at(&line, FIRST))
 }
 
@@ -109,13 +122,15 @@ pub fn read_already(msg: &[u8]) -> Said
     if !is_kind(msg, ALREADY) {
         return Said::Unreadable(BAD);
     }
+    let ws = stamp_widths();
     let mut line = [0u64; STAMP_LINE];
-    read_fields(&mut line, &STAMP_WIDTHS, msg);
+    read_fields(&mut line, &ws, msg);
     Said::Already(parts_at(&line, FIRST))
 }
 
 pub fn write_already(stamp: Parts, out: &mut [u8]) -> Written
-    ensures { λ r. ⌜ Meets (writeAs alreadyKind (figures (said.Already stamp)) (now (out .entry))) r (now (out .exit)) ⌝ }
+    ensures { λ r. ⌜ Meets (writeAs alreadyKind (figures (said.Already stamp)) (now (out .entry))) r
+        (now (out .exit)) ⌝ }
 {
     put_stamp(ALREADY, stamp, out)
 }
@@ -124,8 +139,11 @@ pub fn write_already(stamp: Parts, out: &mut [u8]) -> Written
 fn put_stamp(kind: u8, s: Parts, out: &mut [u8]) -> Written
     ensures { λ r. ⌜ Meets (putLine (1 ∷ stampBody) (kind ∷ listOf s) (now (out .entry))) r (now (out .exit)) ⌝ }
 {
-    let line = [kind as u64, s.p0, s.p1, s.p2, s.p3, s.p4, s.p5, s.p6, s.p7];
-    put_line(&STAMP_WIDTHS, STAMP_SIZE, &line, out)
+    let mut line = [0u64; STAMP_LINE];
+    line[KIND] = kind as u64;
+    put_parts(&mut line, FIRST, s);
+    let ws = stamp_widths();
+    put_line(&ws, STAMP_SIZE, &line, out)
 }
 
 fn verdict_fits(verdict: u64) -> bool
@@ -137,14 +155,27 @@ fn verdict_fits(verdict: u64) -> bool
     }
 }
 
+fn verdict_widths() -> [usize; VERDICT_LINE]
+    ensures { λ r. ⌜ r ≡ 1 ∷ verdictBody ⌝ }
+{
+    let mut ws = [PART_WIDTH; VERDICT_LINE];
+    ws[KIND] = KIND_SIZE;
+    ws[FIRST] = 1;
+    ws[SECOND] = 2;
+    ws[THIRD] = 4;
+    ws[FOURTH] = 4;
+    ws
+}
+
 pub fn read_verdict(msg: &[u8]) -> Said
     ensures { λ r. ⌜ r ≡ readAs verdictKind (now (msg .entry)) ⌝ }
 {
     if !is_kind(msg, VERDICT) {
         return Said::Unreadable(BAD);
     }
+    let ws = verdict_widths();
     let mut line = [0u64; VERDICT_LINE];
-    read_fields(&mut line, &VERDICT_WIDTHS, msg);
+    read_fields(&mut line, &ws, msg);
     let verdict = line[FIRST];
     if !verdict_fits(verdict) {
         return Said::Unreadable(BAD);
@@ -167,27 +198,21 @@ pub fn write_verdict(
     value: Parts,
     out: &mut [u8],
 ) -> Written
-    ensures { λ r. ⌜ Meets (writeAs verdictKind (figures (said.Verdict verdict showing accepts declines value)) (now (out .entry))) r (now (out .exit)) ⌝ }
+    ensures { λ r. ⌜ Meets (writeAs verdictKind (figures (said.Verdict verdict showing accepts declines value))
+        (now (out .entry))) r (now (out .exit)) ⌝ }
 {
     if !verdict_fits(verdict) {
         return Written::Refused(BAD);
     }
-    let line = [
-        VERDICT as u64,
-        verdict,
-        showing,
-        accepts,
-        declines,
-        value.p0,
-        value.p1,
-        value.p2,
-        value.p3,
-        value.p4,
-        value.p5,
-        value.p6,
-        value.p7,
-    ];
-    put_line(&VERDICT_WIDTHS, VERDICT_SIZE, &line, out)
+    let mut line = [0u64; VERDICT_LINE];
+    line[KIND] = VERDICT as u64;
+    line[FIRST] = verdict;
+    line[SECOND] = showing;
+    line[THIRD] = accepts;
+    line[FOURTH] = declines;
+    put_parts(&mut line, FIFTH, value);
+    let ws = verdict_widths();
+    put_line(&ws, VERDICT_SIZE, &line, out)
 }
 
 pub fn read_wait(msg: &[u8]) -> Said
@@ -233,7 +258,8 @@ pub fn read_refusal(msg: &[u8]) -> Said
 }
 
 pub fn write_refusal(number: u64, out: &mut [u8]) -> Written
-    ensures { λ r. ⌜ Meets (writeAs refusalKind (figures (said.Refusal number)) (now (out .entry))) r (now (out .exit)) ⌝ }
+    ensures { λ r. ⌜ Meets (writeAs refusalKind (figures (said.Refusal number)) (now (out .entry))) r (now (out .exit))
+        ⌝ }
 {
     if !in_table(number) {
         return Written::Refused(BAD);
@@ -257,7 +283,8 @@ pub fn read_gossip_taken(msg: &[u8]) -> Said
 }
 
 pub fn write_gossip_taken(new: u64, applied: u64, out: &mut [u8]) -> Written
-    ensures { λ r. ⌜ Meets (writeAs gossipTakenKind (figures (said.GossipTaken new applied)) (now (out .entry))) r (now (out .exit)) ⌝ }
+    ensures { λ r. ⌜ Meets (writeAs gossipTakenKind (figures (said.GossipTaken new applied)) (now (out .entry))) r
+        (now (out .exit)) ⌝ }
 {
     let line = [GOSSIP_TAKEN as u64, new, applied];
     put_line(&GOSSIP_TAKEN_WIDTHS, GOSSIP_TAKEN_SIZE, &line, out)

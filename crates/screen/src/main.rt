@@ -1,5 +1,6 @@
-// A screen as a program: a loop that reads standard input, asks what to do next, and writes. Every decision is the library's.
-use layout::BOOK;
+// A screen as a program: a loop that reads standard input, asks what to do next, and writes. Every decision is the
+// library's.
+use lent::BOOK;
 use libc::STDIN_FILENO;
 use libc::STDOUT_FILENO;
 use program::Turn;

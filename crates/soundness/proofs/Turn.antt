@@ -1,18 +1,19 @@
--- One turn and the end of a loop that tests row after row, on the lists; and what a cascade of tests comes to. Assumes nothing.
-use Prim.Native.Nat.{ℕ, zero, suc, _+_, _-_, _*_, _≤_, _<_}
+-- One turn and the end of a loop that tests row after row, on the lists; and what a cascade of tests comes to. Assumes
+-- nothing.
+use Prim.Native.Nat.{ℕ, suc, _+_, _-_, _*_, _≤_, _<_}
 use native.Mathlib.Nat.{sub-zero}
 use native.Mathlib.Omega.{arith}
 use mathlib.Core.Path.{_≡_, refl, ap, _∙_}
-use mathlib.Core.Bool.{Bool, true, false, _&&_, and-false}
+use mathlib.Core.Bool.{Bool, true, false, _&&_}
 use mathlib.Core.List.{List, [], _∷_, map}
 use lib.Dec.{T}
-use lib.ListN.{take, drop, getD}
+use lib.ListN.{take, drop}
 use lib.Seq.{drop-drop}
-use Rattle.lists.specs.Facts.{every-getD}
+use Rattle.lists.specs.TestLaws.{every-getD}
 use Rattle.lists.specs.RowLaws.{length-rows, rows-at}
 use Rattle.lists.specs.Rows.{rows}
-use Rattle.lists.specs.Tests.{all, every}
-use Rattle.stamp.specs.Limits.{parts}
+use Rattle.lists.specs.Tests.{every}
+use Rattle.limits.specs.Limits.{parts}
 use Rattle.stamp.specs.Stamp.{stampFits}
 use Rattle.ledger.specs.Record.{Record}
 use Rattle.log.specs.Region.{rowLong, recordAt, recordsAt}
@@ -34,7 +35,8 @@ module _ (p : List ℕ → Bool) (w n : ℕ) (l : List ℕ) where
         let f : at + w - at ≡ w = omega arith in
         rw (e, f, drop-drop w at l)
 
-    pub rows-on : i < n → p (take (at + w - at) (drop at l)) ≡ true → everyFrom p w n l i at ≡ everyFrom p w n l (i + 1) (at + w)
+    pub rows-on : i < n → p (take (at + w - at) (drop at l)) ≡ true
+        → everyFrom p w n l i at ≡ everyFrom p w n l (i + 1) (at + w)
     rows-on h e = next h ∙ ap (λ (b : Bool). b && everyFrom p w n l (i + 1) (at + w)) e
 
     pub rows-off : i < n → p (take (at + w - at) (drop at l)) ≡ false → everyFrom p w n l i at ≡ false
@@ -47,7 +49,8 @@ module _ (p : List ℕ → Bool) (w n : ℕ) (l : List ℕ) where
         rw e
 
 -- a test of the records is a test of the rows that hold them
-pub records-all : (p : Record → Bool) (n : ℕ) (l : List ℕ) → every p (recordsAt n l) ≡ everyFrom (λ c. p (recordAt c)) rowLong n l 0 0
+pub records-all : (p : Record → Bool) (n : ℕ) (l : List ℕ)
+    → every p (recordsAt n l) ≡ everyFrom (λ c. p (recordAt c)) rowLong n l 0 0
 unfolding recordsAt
 records-all p n l = go (rows rowLong n l) ∙ rows-all (λ c. p (recordAt c)) rowLong n l
   where
@@ -55,15 +58,10 @@ records-all p n l = go (rows rowLong n l) ∙ rows-all (λ c. p (recordAt c)) ro
     go [] = refl
     go (c ∷ cs) = ap (λ (b : Bool). p (recordAt c) && b) (go cs)
 
--- one rule that fails settles a cascade
-pub all-off : (cs : List Bool) (k : ℕ) → getD cs k true ≡ false → all cs ≡ false
-all-off [] k e = e
-all-off (c ∷ cs) zero e = ap (λ (b : Bool). b && all cs) e
-all-off (c ∷ cs) (suc k) e = ap (λ (b : Bool). c && b) (all-off cs k e) ∙ and-false c
-
 -- row i of a table whose rows fit, as it is lent
-pub row-fits : (i n : ℕ) (table : List ℕ) → i < n → T (every (stampFits n) (rows parts n table)) → T (stampFits n (take (i * 8 + 8 - i * 8) (drop (i * 8) table)))
-unfolding parts
+pub row-fits : (i n : ℕ) (table : List ℕ) → i < n → T (every (stampFits n) (rows parts n table))
+    → T (stampFits n (take (i * parts + parts - i * parts) (drop (i * parts) table)))
 row-fits i n table h t =
-    let e : i * 8 + 8 - i * 8 ≡ 8 = omega arith in
-    rw (e, ← rows-at 8 n table i h) (every-getD (stampFits n) (rows 8 n table) [] t i (omega (arith, length-rows 8 n table)))
+    let e : i * parts + parts - i * parts ≡ parts = omega arith in
+    rw (e, ← rows-at parts n table i h)
+    (every-getD (stampFits n) (rows parts n table) [] t i (omega (arith, length-rows parts n table)))

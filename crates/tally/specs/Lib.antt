@@ -1,7 +1,9 @@
-pub mod Limits
 pub mod Tap
+pub mod Body
 pub mod Standing
 pub mod Cases
 pub mod WordLaws
 pub mod TapLaws
+pub mod BodyLaws
 pub mod StandingLaws
+pub mod CountingLaws

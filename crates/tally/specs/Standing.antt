@@ -1,4 +1,5 @@
--- The counted taps, and what a prompt's taps come to: the highest showing, its accepts and declines, the verdict. Assumes nothing.
+-- The counted taps, and what a prompt's taps come to: the highest showing, its accepts and declines, the verdict.
+-- Assumes nothing.
 use Prim.Native.Nat.{ℕ, max, _+_, _<_}
 use mathlib.Core.Bool.{Bool, _&&_, true, false, cond}
 use mathlib.Core.List.{List, [], _∷_, map}
@@ -6,7 +7,7 @@ use lib.Dec.{eqb, ltb}
 use lib.ListN.{length, set, getD}
 use Rattle.lists.specs.Order.{insert, insertAll, sameKey}
 use Rattle.lists.specs.Tests.{exists, keep, numbers}
-use Rattle.tally.specs.Limits.{accept, decline, promptCount, countLimit}
+use Rattle.limits.specs.Limits.{accept, decline, promptCount, countLimit}
 use Rattle.tally.specs.Tap.{sameTap, fields}
 use Rattle.tally.specs.declared.Standing.{Standing}
 use Rattle.tally.specs.declared.Tap.{Tap}
@@ -34,7 +35,11 @@ unfoldable pub howMany : ℕ → ℕ → List Tap → ℕ
 howMany s a ts = length (keep (λ t. eqb (t .showing) s && eqb (t .answer) a) ts)
 
 unfoldable pub standingOf : List Tap → Standing
-standingOf ts = record { showing = highest ts; accepts = howMany (highest ts) accept ts; declines = howMany (highest ts) decline ts }
+standingOf ts = record {
+  showing = highest ts;
+  accepts = howMany (highest ts) accept ts;
+  declines = howMany (highest ts) decline ts;
+}
 
 unfoldable pub standing : List Tap → ℕ → Standing
 standing ts p = standingOf (ofPrompt p ts)
@@ -72,16 +77,25 @@ contested = 3
 
 unfoldable pub verdictOf : Standing → ℕ
 verdictOf s =
-    cond (ltb 0 (s .accepts)) (cond (ltb 0 (s .declines)) contested accepted) (cond (ltb 0 (s .declines)) declined unasked)
+    cond (ltb 0 (s .accepts)) (cond (ltb 0 (s .declines)) contested accepted)
+    (cond (ltb 0 (s .declines)) declined unasked)
 
--- The same kept up one tap at a time: a higher showing begins anew, the same one counts one more, a lower one changes nothing.
+-- The same kept up one tap at a time: a higher showing begins anew, the same one counts one more, a lower one changes
+-- nothing.
 unfoldable pub oneIf : ℕ → Tap → ℕ
 oneIf a t = cond (eqb (t .answer) a) 1 0
 
 unfoldable pub noted : Tap → Standing → Standing
 noted t s =
-    cond (ltb (s .showing) (t .showing)) (record { showing = t .showing; accepts = oneIf accept t; declines = oneIf decline t })
-    (cond (eqb (t .showing) (s .showing)) (record { showing = s .showing; accepts = s .accepts + oneIf accept t; declines = s .declines + oneIf decline t }) s)
+    cond (ltb (s .showing) (t .showing))
+    (record { showing = t .showing; accepts = oneIf accept t; declines = oneIf decline t })
+    (cond (eqb (t .showing) (s .showing))
+    (record {
+      showing = s .showing;
+      accepts = s .accepts + oneIf accept t;
+      declines = s .declines
+          + oneIf decline t;
+    }) s)
 
 -- one more tap can be noted in 64 bits
 pub record CountsFit (s : Standing) : Type 0 where
@@ -91,7 +105,8 @@ pub record CountsFit (s : Standing) : Type 0 where
 -- a tap that is not among the counted ones is put in its place and noted at its prompt
 unfoldable pub count : Tap → List Tap × List Standing → List Tap × List Standing
 count t st =
-    cond (among (st .0) t) st (insert fields t (st .0), set (st .1) (t .prompt) (noted t (getD (st .1) (t .prompt) blank)))
+    cond (among (st .0) t) st
+    (insert fields t (st .0), set (st .1) (t .prompt) (noted t (getD (st .1) (t .prompt) blank)))
 
 abbrev pub counting : List Tap → List Tap × List Standing → List Tap × List Standing
 counting [] st = st

@@ -3,10 +3,10 @@ use Prim.Native.Nat.{ℕ, _+_, _*_, _/_, _%_, _<_}
 use mathlib.Core.Bool.{Bool, _&&_}
 use mathlib.Core.List.{List, [], _∷_}
 use lib.Dec.{leb, ltb}
-use Rattle.lists.specs.Tests.{all, every}
+use Rattle.lists.specs.Tests.{all}
 use Rattle.lists.specs.Order.{sameKey}
+use Rattle.limits.specs.Limits.{frontEnds, serials, promptCount, showings, accept, decline}
 use Rattle.tally.specs.declared.Tap.{Tap}
-use Rattle.tally.specs.Limits.{frontEnds, serials, promptCount, showings, accept, decline}
 
 -- the five fields in order
 abbrev pub fields : Tap → List ℕ
@@ -50,10 +50,3 @@ tapOf w =
       showing = w / 4 % 65536;
       answer = w % 4;
     }
-
--- a record's body says one tap: the taps that count once the record is applied, and the rule of a body
-abbrev pub tapsIn : ℕ → List Tap
-tapsIn w = tapOf w ∷ []
-
-unfoldable pub bodyFits : ℕ → Bool
-bodyFits w = every tapFits (tapsIn w)

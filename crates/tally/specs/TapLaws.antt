@@ -1,16 +1,15 @@
 -- Laws of taps: being among some taps, and the field rules as facts. Assumes nothing.
-use Prim.Native.Nat.{ℕ, _<_, _≤_}
+use Prim.Native.Nat.{_<_, _≤_}
 use native.Mathlib.Omega.{arith}
-use mathlib.Core.Path.{ap, _≡_, subst, sym}
+use mathlib.Core.Path.{_≡_, subst, sym}
 use mathlib.Core.Logic.{_⊎_, inl, inr}
-use mathlib.Core.List.{List, _∷_, []}
-use lib.Dec.{T, ltb→lt, leb, leb→le, nleb→lt}
-use lib.ListN.{length}
-use Rattle.lists.specs.Facts.{_∈_, exists-from, exists-at, all-at, and-l, and-r, either, tell, every-at}
-use Rattle.tally.specs.Limits.{promptCount, accept, decline}
+use mathlib.Core.List.{List}
+use lib.Dec.{T, ltb, ltb→lt, leb, leb→le, nleb→lt}
+use Rattle.lists.specs.TestLaws.{_∈_, exists-from, exists-at, given, and-l, and-r, either, tell}
+use Rattle.limits.specs.Limits.{promptCount, accept, decline, showings}
 use Rattle.tally.specs.Standing.{among}
-use Rattle.tally.specs.Tap.{sameTap, tapFits, tapRules, tapsIn, bodyFits, wordOf}
-use Rattle.tally.specs.WordLaws.{tap-word, fits-bits, same-tap, tap-same}
+use Rattle.tally.specs.Tap.{sameTap, tapFits, tapRules}
+use Rattle.tally.specs.WordLaws.{same-tap, tap-same}
 use Rattle.tally.specs.declared.Tap.{Tap}
 
 -- among some taps, by the test and by membership
@@ -25,24 +24,24 @@ among-mem t ts h = go (exists-at (sameTap t) ts h)
     go : ((u : Tap) × (u ∈ ts) × T (sameTap t u)) → t ∈ ts
     go w = subst (λ (u : Tap). u ∈ ts) (sym (same-tap t (w .0) (w .2))) (w .1)
 
--- a fitting tap's prompt is one of the prompts, and its answer is accept or decline
+-- a fitting tap's prompt is one of the prompts, its showing one of the showings, and its answer is accept or decline
 pub prompt-in : (t : Tap) → T (tapFits t) → t .prompt < promptCount
 unfolding tapFits
-prompt-in t h = ltb→lt (t .prompt) promptCount (all-at (tapRules t) 2 h)
+prompt-in t h = given (tapRules t) h (λ front serial prompt showing answer. ltb→lt (t .prompt) promptCount prompt)
+
+pub showing-in : (t : Tap) → T (tapFits t) → t .showing < showings
+unfolding tapFits
+showing-in t h =
+    given (tapRules t) h
+    (λ front serial prompt showing answer.
+    ltb→lt (t .showing) showings (and-r (leb 1 (t .showing)) (ltb (t .showing) showings) showing))
 
 pub answer-either : (t : Tap) → T (tapFits t) → (t .answer ≡ accept) ⊎ (t .answer ≡ decline)
 unfolding tapFits accept decline
 answer-either t h =
-    either (tell (leb (t .answer) 1)) (λ e. inl (omega (arith, leb→le (t .answer) 1 e, leb→le 1 (t .answer) (and-l (leb 1 (t .answer)) (leb (t .answer) 2) (all-at (tapRules t) 4 h)))))
-    (λ e. inr (omega (arith, nleb→lt (t .answer) 1 e, leb→le (t .answer) 2 (and-r (leb 1 (t .answer)) (leb (t .answer) 2) (all-at (tapRules t) 4 h)))))
-
--- what a record's body says: at most one tap, which fits when the body does, and of a tap's word just that tap
-pub taps-one : (w : ℕ) → length (tapsIn w) ≤ 1
-taps-one w = omega arith
-
-pub taps-body : (w : ℕ) → T (bodyFits w) → (t : Tap) → t ∈ tapsIn w → T (tapFits t)
-unfolding bodyFits
-taps-body w h t m = every-at tapFits (tapsIn w) h m
-
-pub taps-word : (t : Tap) → T (tapFits t) → tapsIn (wordOf t) ≡ t ∷ []
-taps-word t h = ap (λ (u : Tap). u ∷ []) (tap-word t (fits-bits t h))
+    given (tapRules t) h
+    (λ front serial prompt showing answer.
+    let lo : 1 ≤ t .answer = leb→le 1 (t .answer) (and-l (leb 1 (t .answer)) (leb (t .answer) 2) answer) in
+    let hi : t .answer ≤ 2 = leb→le (t .answer) 2 (and-r (leb 1 (t .answer)) (leb (t .answer) 2) answer) in
+    either (tell (leb (t .answer) 1)) (λ e. inl (omega (arith, leb→le (t .answer) 1 e)))
+    (λ e. inr (omega (arith, nleb→lt (t .answer) 1 e))))

@@ -1,30 +1,32 @@
--- Laws of the word: word and fields give each other back, the numeric order of words is the order of the five fields, and two
+-- Laws of the word: word and fields give each other back, the numeric order of words is the order of the five fields,
+-- and two
 -- taps are the same exactly when the words are. Assumes nothing.
 use Prim.Native.Nat.{ℕ, _/_, _%_, _<_}
 use native.Mathlib.Omega.{arith}
 use mathlib.Core.Path.{_≡_, sym, ap, ap₂, subst, _∙_}
-use mathlib.Core.Bool.{true}
 use lib.Dec.{T, leb, ltb, eqb, leb→le, ltb→lt, lt→ltb, eqb→eq}
 use lib.ListN.{getD, drop}
 use Rattle.lists.specs.Order.{keyBefore}
-use Rattle.lists.specs.Facts.{either, tell, and-l, and-r, both, all-at, same-test}
-use Rattle.lists.specs.MoreFacts.{eq→eqb}
+use Rattle.lists.specs.TestLaws.{either, tell, and-r, given, same-test}
+use Rattle.lists.specs.ElementLaws.{eq→eqb}
 use Rattle.lists.specs.Sorted.{before-cons, before-total, sameKey→≡, sameKey-refl}
+use Rattle.limits.specs.Limits.{frontEnds, serials, promptCount, showings, accept, decline}
 use Rattle.tally.specs.declared.Tap.{Tap}
-use Rattle.tally.specs.Limits.{frontEnds, serials, promptCount, showings, accept, decline}
-use Rattle.tally.specs.Tap.{fields, sameTap, tapRules, tapFits, FitsBits, wordOf, tapOf, bodyFits}
+use Rattle.tally.specs.Tap.{fields, sameTap, tapRules, tapFits, FitsBits, wordOf, tapOf}
 
 -- a tap that keeps the field rules fits the word
 pub fits-bits : (t : Tap) → T (tapFits t) → FitsBits t
 unfolding tapFits frontEnds serials promptCount showings decline
 fits-bits t h =
+    given (tapRules t) h
+    (λ front serial prompt showing answer.
     record {
-      front = ltb→lt (t .front) 256 (all-at (tapRules t) 0 h);
-      serial = ltb→lt (t .serial) 4294967296 (all-at (tapRules t) 1 h);
-      prompt = ltb→lt (t .prompt) 64 (all-at (tapRules t) 2 h);
-      showing = ltb→lt (t .showing) 65536 (and-r (leb 1 (t .showing)) (ltb (t .showing) 65536) (all-at (tapRules t) 3 h));
-      answer = omega (arith, leb→le (t .answer) 2 (and-r (leb accept (t .answer)) (leb (t .answer) 2) (all-at (tapRules t) 4 h)));
-    }
+      front = ltb→lt (t .front) 256 front;
+      serial = ltb→lt (t .serial) 4294967296 serial;
+      prompt = ltb→lt (t .prompt) 64 prompt;
+      showing = ltb→lt (t .showing) 65536 (and-r (leb 1 (t .showing)) (ltb (t .showing) 65536) showing);
+      answer = omega (arith, leb→le (t .answer) 2 (and-r (leb accept (t .answer)) (leb (t .answer) 2) answer));
+    })
 
 -- word and fields give each other back
 pub word-tap : (w : ℕ) → wordOf (tapOf w) ≡ w
@@ -53,25 +55,39 @@ low-word w = record { serial = omega arith; prompt = omega arith; showing = omeg
 before-word : (t u : Tap) → LowFits t → LowFits u → T (keyBefore (fields t) (fields u)) → wordOf t < wordOf u
 before-word t u h k b =
     either (before-cons (t .front) (u .front) (drop 1 (fields t)) (drop 1 (fields u)) b) (λ l. omega arith)
-    (λ e. either (before-cons (t .serial) (u .serial) (drop 2 (fields t)) (drop 2 (fields u)) (e .1)) (λ l. omega (arith, e .0))
-    (λ f. either (before-cons (t .prompt) (u .prompt) (drop 3 (fields t)) (drop 3 (fields u)) (f .1)) (λ l. omega (arith, e .0, f .0))
-    (λ g. either (before-cons (t .showing) (u .showing) (drop 4 (fields t)) (drop 4 (fields u)) (g .1)) (λ l. omega (arith, e .0, f .0, g .0))
-    (λ i. either (before-cons (t .answer) (u .answer) (drop 5 (fields t)) (drop 5 (fields u)) (i .1)) (λ l. omega (arith, e .0, f .0, g .0, i .0)) (λ j. absurd (j .1))))))
+    (λ e. either (before-cons (t .serial) (u .serial) (drop 2 (fields t)) (drop 2 (fields u)) (e .1))
+    (λ l. omega (arith, e .0))
+    (λ f. either (before-cons (t .prompt) (u .prompt) (drop 3 (fields t)) (drop 3 (fields u)) (f .1))
+    (λ l. omega (arith, e .0, f .0))
+    (λ g. either (before-cons (t .showing) (u .showing) (drop 4 (fields t)) (drop 4 (fields u)) (g .1))
+    (λ l. omega (arith, e .0, f .0, g .0))
+    (λ i. either (before-cons (t .answer) (u .answer) (drop 5 (fields t)) (drop 5 (fields u)) (i .1))
+    (λ l. omega (arith, e .0, f .0, g .0, i .0)) (λ j. absurd (j .1))))))
 
 -- the five fields settle a tap
 pub fields-same : (t u : Tap) → fields t ≡ fields u → t ≡ u
 fields-same t u e =
-    λ i. record { front = getD (e i) 0 0; serial = getD (e i) 1 0; prompt = getD (e i) 2 0; showing = getD (e i) 3 0; answer = getD (e i) 4 0 }
+    λ i. record {
+      front = getD (e i) 0 0;
+      serial = getD (e i) 1 0;
+      prompt = getD (e i) 2 0;
+      showing = getD (e i) 3 0;
+      answer = getD (e i) 4 0;
+    }
 
 word-before : (t u : Tap) → LowFits t → LowFits u → wordOf t < wordOf u → T (keyBefore (fields t) (fields u))
 word-before t u h k l =
     either (tell (keyBefore (fields t) (fields u))) (λ b. b)
     (λ n. either (tell (keyBefore (fields u) (fields t))) (λ b. absurd (omega (arith, before-word u t k h b)))
-    (λ m. absurd (omega (arith, ap (λ (x : Tap). wordOf x) (fields-same t u (before-total (fields t) (fields u) n m))))))
+    (λ m. absurd (omega (
+      arith,
+      ap (λ (x : Tap). wordOf x) (fields-same t u (before-total (fields t) (fields u) n m)),
+    ))))
 
 order : (t u : Tap) → LowFits t → LowFits u → keyBefore (fields t) (fields u) ≡ ltb (wordOf t) (wordOf u)
 order t u h k =
-    same-test (keyBefore (fields t) (fields u)) (ltb (wordOf t) (wordOf u)) (λ b. lt→ltb (wordOf t) (wordOf u) (before-word t u h k b))
+    same-test (keyBefore (fields t) (fields u)) (ltb (wordOf t) (wordOf u))
+    (λ b. lt→ltb (wordOf t) (wordOf u) (before-word t u h k b))
     (λ l. word-before t u h k (ltb→lt (wordOf t) (wordOf u) l))
 
 pub tap-order : (v w : ℕ) → keyBefore (fields (tapOf v)) (fields (tapOf w)) ≡ ltb v w
@@ -91,12 +107,3 @@ tap-equal v w =
     same-test (sameTap (tapOf v) (tapOf w)) (eqb v w)
     (λ s. eq→eqb v w (sym (word-tap v) ∙ ap wordOf (same-tap (tapOf v) (tapOf w) s) ∙ word-tap w))
     (λ e. subst (λ (x : ℕ). T (sameTap (tapOf v) (tapOf x))) (eqb→eq v w e) (tap-same (tapOf v)))
-
--- a body keeps its rule exactly when its tap keeps the field rules
-pub body-tap : (w : ℕ) → T (bodyFits w) → T (tapFits (tapOf w))
-unfolding bodyFits
-body-tap w h = and-l (tapFits (tapOf w)) true h
-
-pub tap-body : (t : Tap) → T (tapFits t) → T (bodyFits (wordOf t))
-unfolding bodyFits
-tap-body t h = both (tapFits (tapOf (wordOf t))) true (subst (λ (x : Tap). T (tapFits x)) (sym (tap-word t (fits-bits t h))) h) tt

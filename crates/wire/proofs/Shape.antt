@@ -7,8 +7,8 @@ use mathlib.Core.List.{List}
 use borrow.Author.Tests.{eq-eqb, ne-eqb}
 use lib.Dec.{eqb, eqb→eq}
 use lib.ListN.{length, getD}
-use Rattle.lists.specs.Facts.{same-test}
-use Rattle.lists.specs.MoreFacts.{eq→eqb}
+use Rattle.lists.specs.TestLaws.{same-test}
+use Rattle.lists.specs.ElementLaws.{eq→eqb}
 use Rattle.wire.specs.Kinds.{bodyOf, isLong, shaped}
 use Rattle.wire.specs.declared.Body.{Body}
 use Rattle.wire.specs.declared.Body.the-variants.{Long, Bad}
@@ -33,8 +33,11 @@ module _ (k : ℕ) (bytes : List ℕ) where
   unfolding shaped
   another h = rw (ne-eqb (getD bytes 0 0) k h)
 
-  pub settled : (n : ℕ) → 0 < length bytes → getD bytes 0 0 ≡ k → bodyOf k ≡ Long n → eqb (length bytes - 1) n ≡ shaped k bytes
+  pub settled : (n : ℕ) → 0 < length bytes → getD bytes 0 0 ≡ k → bodyOf k ≡ Long n
+      → eqb (length bytes - 1) n ≡ shaped k bytes
   unfolding shaped
   settled n h e b =
       rw (eq-eqb (getD bytes 0 0) k e, b)
-      (same-test (eqb (length bytes - 1) n) (eqb (length bytes) (1 + n)) (λ t. eq→eqb (length bytes) (1 + n) (omega (arith, eqb→eq (length bytes - 1) n t))) (λ t. eq→eqb (length bytes - 1) n (omega (arith, eqb→eq (length bytes) (1 + n) t))))
+      (same-test (eqb (length bytes - 1) n) (eqb (length bytes) (1 + n))
+      (λ t. eq→eqb (length bytes) (1 + n) (omega (arith, eqb→eq (length bytes - 1) n t)))
+      (λ t. eq→eqb (length bytes - 1) n (omega (arith, eqb→eq (length bytes) (1 + n) t))))

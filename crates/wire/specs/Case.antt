@@ -4,17 +4,16 @@ use mathlib.Core.Path.{_≡_, refl}
 use mathlib.Core.List.{List, [], _∷_, _++_}
 use lib.Dec.{T}
 use lib.ListN.{replicate}
+use Rattle.limits.specs.Limits.{word, frontEnds, serials, promptCount, showings, accept, decline, fewest, most, logRoom}
 use Rattle.stamp.specs.declared.Parts.{Parts}
 use Rattle.stamp.specs.Parts.{partsAt, listOf}
-use Rattle.stamp.specs.Limits.{parts, word}
 use Rattle.stamp.specs.Stamp.{stampFits}
 use Rattle.tally.specs.declared.Tap.{Tap}
-use Rattle.tally.specs.Limits.{frontEnds, serials, promptCount, showings, accept, decline}
-use Rattle.tally.specs.Tap.{tapFits, bodyFits}
-use Rattle.ledger.specs.Limits.{fewest, most, logRoom}
+use Rattle.tally.specs.Body.{bodyOf, bodyFits}
+use Rattle.tally.specs.Tap.{tapFits}
 use Rattle.ledger.specs.Message.{inRange}
 use Rattle.ledger.specs.Record.{recordFits, isKnown, knows}
-use Rattle.bigendian.specs.Number.{bytesOf}
+use Rattle.numbers.specs.Number.{bytesOf}
 use Rattle.wire.specs.declared.Said.{Said}
 use Rattle.wire.specs.declared.Said.the-variants as said
 use Rattle.wire.specs.Said.{figures}
@@ -43,9 +42,19 @@ pub record WholeCase : Type 0 where
   pub taken : Writes takenKind (said.Taken (stampFrom 1)) (then (5 ∷ 0 ∷ 0 ∷ 0 ∷ 1 ∷ []) 28)
   pub heads : Writes headKind (said.Head 0 2 1 (stampFrom 1)) (then (1 ∷ 0 ∷ 2 ∷ 0 ∷ 1 ∷ 0 ∷ 0 ∷ 0 ∷ 1 ∷ []) 28)
   pub records :
-      Writes (recordKind 2 (listOf (stampFrom 1))) (said.Record 0 1 (stampFrom 0) tapped) (then (2 ∷ 0 ∷ 0 ∷ 0 ∷ 0 ∷ 1 ∷ []) 32 ++ (5 ∷ 0 ∷ 0 ∷ 0 ∷ 1 ∷ 7 ∷ 0 ∷ 1 ∷ 1 ∷ []))
+      Writes (recordKind 2 (listOf (stampFrom 1))) (said.Record 0 1 (stampFrom 0) tapped)
+      (then (2 ∷ 0 ∷ 0 ∷ 0 ∷ 0 ∷ 1 ∷ []) 32 ++ (5 ∷ 0 ∷ 0 ∷ 0 ∷ 1 ∷ 7 ∷ 0 ∷ 1 ∷ 1 ∷ []))
 
 pub whole-case : WholeCase
-unfolding writable written openKind tapKind sendKind takenKind headKind recordKind partsAt listOf bytesOf stampFits parts word tapFits frontEnds serials promptCount showings accept decline bodyFits inRange fewest most logRoom recordFits isKnown knows
+unfolding writable written openKind tapKind sendKind takenKind headKind recordKind partsAt listOf bytesOf stampFits word
+    tapFits frontEnds serials promptCount showings accept decline bodyOf bodyFits inRange fewest most logRoom recordFits
+    isKnown knows
 whole-case =
-    record { opens = (tt, refl); taps = (tt, refl); sends = (tt, refl); taken = (tt, refl); heads = (tt, refl); records = (tt, refl) }
+    record {
+      opens = (tt, refl);
+      taps = (tt, refl);
+      sends = (tt, refl);
+      taken = (tt, refl);
+      heads = (tt, refl);
+      records = (tt, refl);
+    }

@@ -18,14 +18,14 @@ use borrow.Author.Tests.{le-ltb, ltb-false}
 use lib.Dec.{T, leb, leb→le, ltb, eqb, eqb→eq}
 use lib.ListN.{length, getD, take, drop, drop-of-length-le}
 use lib.Seq.{drop-cons, take-at, drop-at}
-use Rattle.lists.specs.Facts.{and-l, and-r, both, is-true}
-use Rattle.lists.specs.MoreFacts.{eq→eqb}
+use Rattle.lists.specs.TestLaws.{and-l, and-r, both, is-true}
+use Rattle.lists.specs.ElementLaws.{eq→eqb}
 use Rattle.lists.specs.Tests.{every}
 use Rattle.stamp.specs.Stamp.{Stamp, total}
 use Rattle.stamp.specs.Parts.{partsAt, listOf}
-use Rattle.bigendian.specs.Number.{numberFrom, Bytes}
-use Rattle.fields.specs.Fields.{fieldsFit}
-use Rattle.fields.specs.Laws.{length-read, read-write, write-read, fit-read, length-write}
+use Rattle.numbers.specs.Number.{numberFrom, Bytes}
+use Rattle.numbers.specs.Fields.{fieldsFit}
+use Rattle.numbers.specs.FieldLaws.{length-read, read-write, write-read, fit-read, length-write}
 use Rattle.wire.specs.declared.Said.{Said}
 use Rattle.wire.specs.declared.Said.the-variants as said
 use Rattle.wire.specs.declared.Written.{Written}
@@ -33,7 +33,7 @@ use Rattle.wire.specs.declared.Written.the-variants.{Wrote, Refused}
 use Rattle.wire.specs.declared.Body.{Body}
 use Rattle.wire.specs.declared.Body.the-variants.{Long}
 use Rattle.wire.specs.Said.{figures}
-use Rattle.wire.specs.Kinds.{Kind, widths, size, lookup, bodies, bodyOf, isLong, shaped, headKind, recordKind, tapKind, questionKind, takenKind, alreadyKind, verdictKind, waitKind, refusalKind, gossipTakenKind, openKind, sendKind}
+use Rattle.wire.specs.Kinds.{Kind, widths, size, lookup, bodies, bodyOf, isLong, shaped, headKind, recordKind, tapKind, questionKind, takenKind, alreadyKind, verdictKind, waitKind, refusalKind, gossipTakenKind, openKind, sendKind, headNumber, recordNumber, tapNumber, questionNumber, takenNumber, alreadyNumber, verdictNumber, waitNumber, refusalNumber, gossipTakenNumber, openNumber, sendNumber, headBody, recordBody, tapMessageBody, questionBody, takenBody, alreadyBody, verdictBody, waitBody, refusalBody, gossipTakenBody, openBody, sendBody}
 use Rattle.wire.specs.Read.{lineOf, readable, readAs}
 use Rattle.wire.specs.Returns.{fit-length}
 use Rattle.wire.specs.Write.{Output, Meets, refuse, writable, written, writeAs}
@@ -41,20 +41,23 @@ use Rattle.wire.specs.Write.{Output, Meets, refuse, writable, written, w
 -- a body that a table has is no longer than all of them
 lookup-few : (m k n : ℕ) (table : List (ℕ × ℕ)) → T (every (λ l. leb (l .1) m) table) → lookup k table ≡ Long n → n ≤ m
 lookup-few m k n [] t e = let z : _≡_ {A = ℕ} 0 1 = cc in absurd (omega arith)
-lookup-few m k n (l ∷ ls) t e = go (eqb k (l .0)) (lookup-few m k n ls (and-r (leb (l .1) m) (every (λ x. leb (x .1) m) ls) t)) e
+lookup-few m k n (l ∷ ls) t e =
+    go (eqb k (l .0)) (lookup-few m k n ls (and-r (leb (l .1) m) (every (λ x. leb (x .1) m) ls) t)) e
   where
     go : (c : Bool) → (lookup k ls ≡ Long n → n ≤ m) → cond c (Long (l .1)) (lookup k ls) ≡ Long n → n ≤ m
-    go true rec q = let z : l .1 ≡ n = cc in omega (arith, leb→le (l .1) m (and-l (leb (l .1) m) (every (λ x. leb (x .1) m) ls) t))
+    go true rec q = let z : l .1 ≡ n = cc in
+        omega (arith, leb→le (l .1) m (and-l (leb (l .1) m) (every (λ x. leb (x .1) m) ls) t))
     go false rec q = rec q
 
-pub body-few : (k n : ℕ) → bodyOf k ≡ Long n → n ≤ 46
+pub body-few : (k n : ℕ) → bodyOf k ≡ Long n → n ≤ total recordBody
 unfolding bodyOf
-body-few k n e = lookup-few 46 k n bodies tt e
+body-few k n e = lookup-few (total recordBody) k n bodies tt e
 
 -- the table has the body's length, and what a line of the kind says is that line
 pub record Lawful (k : Kind) : Type 0 where
   pub long : bodyOf (k .number) ≡ Long (total (k .body))
-  pub told : (line : List ℕ) → length line ≡ length (widths k) → getD line 0 0 ≡ k .number → figures (k .said line) ≡ line
+  pub told : (line : List ℕ) → length line ≡ length (widths k) → getD line 0 0 ≡ k .number
+      → figures (k .said line) ≡ line
 
 -- the first value of a line is the first byte
 first-byte : (k : Kind) (bytes : List ℕ) → getD (lineOf k bytes) 0 0 ≡ getD bytes 0 0
@@ -69,15 +72,18 @@ length-line k bytes = length-read (widths k) bytes
 module _ (k : Kind) (line : List ℕ) (w : T (writable k line)) where
   number-first : getD line 0 0 ≡ k .number
   unfolding writable
-  number-first = eqb→eq (getD line 0 0) (k .number) (and-l (eqb (getD line 0 0) (k .number)) (fieldsFit (widths k) line && k .rules line) w)
+  number-first = eqb→eq (getD line 0 0) (k .number)
+      (and-l (eqb (getD line 0 0) (k .number)) (fieldsFit (widths k) line && k .rules line) w)
 
   in-widths : T (fieldsFit (widths k) line)
   unfolding writable
-  in-widths = and-l (fieldsFit (widths k) line) (k .rules line) (and-r (eqb (getD line 0 0) (k .number)) (fieldsFit (widths k) line && k .rules line) w)
+  in-widths = and-l (fieldsFit (widths k) line) (k .rules line)
+      (and-r (eqb (getD line 0 0) (k .number)) (fieldsFit (widths k) line && k .rules line) w)
 
   rules-kept : T (k .rules line)
   unfolding writable
-  rules-kept = and-r (fieldsFit (widths k) line) (k .rules line) (and-r (eqb (getD line 0 0) (k .number)) (fieldsFit (widths k) line && k .rules line) w)
+  rules-kept = and-r (fieldsFit (widths k) line) (k .rules line)
+      (and-r (eqb (getD line 0 0) (k .number)) (fieldsFit (widths k) line && k .rules line) w)
 
   pub line-written : lineOf k (written k line) ≡ line
   unfolding lineOf written
@@ -92,7 +98,8 @@ module _ (k : Kind) (l : Lawful k) where
   shape-from : (bytes : List ℕ) → getD bytes 0 0 ≡ k .number → length bytes ≡ size k → T (shaped (k .number) bytes)
   unfolding shaped
   shape-from bytes e n =
-      both (eqb (getD bytes 0 0) (k .number)) (isLong (bodyOf (k .number)) (length bytes)) (eq→eqb (getD bytes 0 0) (k .number) e)
+      both (eqb (getD bytes 0 0) (k .number)) (isLong (bodyOf (k .number)) (length bytes))
+      (eq→eqb (getD bytes 0 0) (k .number) e)
       (subst (λ (b : Body). T (isLong b (length bytes))) (sym (l .long)) (eq→eqb (length bytes) (size k) n))
 
   module _ (bytes : List ℕ) (r : T (readable k bytes)) where
@@ -106,17 +113,20 @@ module _ (k : Kind) (l : Lawful k) where
 
     kind-first : getD bytes 0 0 ≡ k .number
     unfolding shaped
-    kind-first = eqb→eq (getD bytes 0 0) (k .number) (and-l (eqb (getD bytes 0 0) (k .number)) (isLong (bodyOf (k .number)) (length bytes)) shape)
+    kind-first = eqb→eq (getD bytes 0 0) (k .number)
+        (and-l (eqb (getD bytes 0 0) (k .number)) (isLong (bodyOf (k .number)) (length bytes)) shape)
 
     pub length-readable : length bytes ≡ size k
     unfolding shaped
     length-readable =
         eqb→eq (length bytes) (size k)
-        (subst (λ (b : Body). T (isLong b (length bytes))) (l .long) (and-r (eqb (getD bytes 0 0) (k .number)) (isLong (bodyOf (k .number)) (length bytes)) shape))
+        (subst (λ (b : Body). T (isLong b (length bytes))) (l .long)
+        (and-r (eqb (getD bytes 0 0) (k .number)) (isLong (bodyOf (k .number)) (length bytes)) shape))
 
     pub figures-read : figures (readAs k bytes) ≡ lineOf k bytes
     unfolding readAs
-    figures-read = rw (is-true (readable k bytes) r) (l .told (lineOf k bytes) (length-line k bytes) (first-byte k bytes ∙ kind-first))
+    figures-read = rw (is-true (readable k bytes) r)
+        (l .told (lineOf k bytes) (length-line k bytes) (first-byte k bytes ∙ kind-first))
 
     module _ (b : Bytes bytes) where
       pub written-line : written k (lineOf k bytes) ≡ bytes
@@ -130,7 +140,8 @@ module _ (k : Kind) (l : Lawful k) where
       pub line-writable : T (writable k (lineOf k bytes))
       unfolding writable
       line-writable =
-          both (eqb (getD (lineOf k bytes) 0 0) (k .number)) (fieldsFit (widths k) (lineOf k bytes) && k .rules (lineOf k bytes))
+          both (eqb (getD (lineOf k bytes) 0 0) (k .number))
+          (fieldsFit (widths k) (lineOf k bytes) && k .rules (lineOf k bytes))
           (eq→eqb (getD (lineOf k bytes) 0 0) (k .number) (first-byte k bytes ∙ kind-first))
           (both (fieldsFit (widths k) (lineOf k bytes)) (k .rules (lineOf k bytes)) in-width kept)
 
@@ -139,23 +150,29 @@ module _ (k : Kind) (l : Lawful k) where
       written-read = rw figures-read (line-writable, written-line)
 
   -- read of write is the line
-  pub read-written : (line : List ℕ) → T (writable k line) → T (readable k (written k line)) × (lineOf k (written k line) ≡ line)
+  pub read-written : (line : List ℕ) → T (writable k line)
+      → T (readable k (written k line)) × (lineOf k (written k line) ≡ line)
   unfolding readable
   read-written line w = (
     both (shaped (k .number) (written k line)) (k .rules (lineOf k (written k line)))
-        (shape-from (written k line) (sym (first-byte k (written k line)) ∙ ap (λ (v : List ℕ). getD v 0 0) (line-written k line w) ∙ number-first k line w) (length-written k line w))
+        (shape-from (written k line)
+        (sym (first-byte k (written k line)) ∙ ap (λ (v : List ℕ). getD v 0 0) (line-written k line w)
+        ∙ number-first k line w) (length-written k line w))
         (subst (λ (v : List ℕ). T (k .rules v)) (sym (line-written k line w)) (rules-kept k line w)),
     line-written k line w,
   )
 
   -- two byte strings that read as the same value are equal
-  pub one-writing : (a b : List ℕ) → Bytes a → Bytes b → T (readable k a) → T (readable k b) → readAs k a ≡ readAs k b → a ≡ b
-  one-writing a b p q r s e = sym (written-read a r p .1) ∙ ap (λ (v : Said). written k (figures v)) e ∙ written-read b s q .1
+  pub one-writing : (a b : List ℕ) → Bytes a → Bytes b → T (readable k a) → T (readable k b) → readAs k a ≡ readAs k b
+      → a ≡ b
+  one-writing a b p q r s e =
+      sym (written-read a r p .1) ∙ ap (λ (v : Said). written k (figures v)) e ∙ written-read b s q .1
 
 -- what a line says, by its number: a kind's house and stamp judge a line, and do not change what it says
 kinds : List Kind
 kinds =
-    headKind ∷ recordKind 0 [] ∷ tapKind 0 ∷ questionKind 0 ∷ takenKind ∷ alreadyKind ∷ verdictKind ∷ waitKind ∷ refusalKind ∷ gossipTakenKind ∷ openKind ∷ sendKind ∷ []
+    headKind ∷ recordKind 0 [] ∷ tapKind 0 ∷ questionKind 0 ∷ takenKind ∷ alreadyKind ∷ verdictKind ∷ waitKind
+    ∷ refusalKind ∷ gossipTakenKind ∷ openKind ∷ sendKind ∷ []
 
 saidBy : List Kind → List ℕ → Said
 saidBy [] line = said.Unreadable 1
@@ -163,7 +180,8 @@ saidBy (k ∷ ks) line = cond (eqb (getD line 0 0) (k .number)) (k .said line) (
 
 -- so a value that has figures has them alone
 value-figures : (v : Said) → 0 < length (figures v) → saidBy kinds (figures v) ≡ v
-unfolding kinds saidBy headKind recordKind tapKind questionKind takenKind alreadyKind verdictKind waitKind refusalKind gossipTakenKind openKind sendKind partsAt listOf
+unfolding kinds saidBy headKind recordKind tapKind questionKind takenKind alreadyKind verdictKind waitKind refusalKind
+    gossipTakenKind openKind sendKind partsAt listOf
 value-figures (said.Head sender screens count stamp) h = refl
 value-figures (said.Record origin number label tap) h = refl
 value-figures (said.Tap tap label) h = refl
@@ -179,34 +197,43 @@ value-figures said.Send h = refl
 value-figures (said.Unreadable number) h = absurd (omega arith)
 
 same-figures : (v u : Said) → figures v ≡ figures u → 0 < length (figures u) → v ≡ u
-same-figures v u e h = sym (value-figures v (subst (λ (line : List ℕ). 0 < length line) (sym e) h)) ∙ ap (saidBy kinds) e ∙ value-figures u h
+same-figures v u e h = sym (value-figures v (subst (λ (line : List ℕ). 0 < length line) (sym e) h))
+    ∙ ap (saidBy kinds) e ∙ value-figures u h
 
 module _ (k : Kind) (l : Lawful k) where
   -- read of write is the value
   pub read-value : (v : Said) → T (writable k (figures v)) → readAs k (written k (figures v)) ≡ v
   read-value v w =
-      same-figures (readAs k (written k (figures v))) v (figures-read k l (written k (figures v)) (read-written k l (figures v) w .0) ∙ line-written k (figures v) w)
+      same-figures (readAs k (written k (figures v))) v
+      (figures-read k l (written k (figures v)) (read-written k l (figures v) w .0) ∙ line-written k (figures v) w)
       (omega (arith, fit-length (widths k) (figures v) (in-widths k (figures v) w)))
 
 -- what a writer answers and leaves
 module _ (k : Kind) (line out : List ℕ) where
   pub put-front :
       T (writable k line) → size k ≤ length out
-      → (writeAs k line out .answer ≡ Wrote (size k)) × (take (size k) (writeAs k line out .bytes) ≡ written k line) × (drop (size k) (writeAs k line out .bytes) ≡ drop (size k) out)
+      → (writeAs k line out .answer ≡ Wrote (size k)) × (take (size k) (writeAs k line out .bytes) ≡ written k line)
+      × (drop (size k) (writeAs k line out .bytes) ≡ drop (size k) out)
   unfolding writeAs
   put-front w h =
-      rw (is-true (writable k line) w, le-ltb (length out) (size k) h)
-      (refl, take-at (written k line) (drop (size k) out) (size k) (length-written k line w), drop-at (written k line) (drop (size k) out) (size k) (length-written k line w))
+      rw (is-true (writable k line) w, le-ltb (length out) (size k) h) (
+        refl,
+        take-at (written k line) (drop (size k) out) (size k) (length-written k line w),
+        drop-at (written k line) (drop (size k) out) (size k) (length-written k line w),
+      )
 
   -- the output by the two tests
   outcome : Bool → Bool → Output
-  outcome p q = cond p (cond q (refuse 12 out) (record { answer = Wrote (size k); bytes = written k line ++ drop (size k) out })) (refuse 1 out)
+  outcome p q = cond p (cond q (refuse 12 out)
+      (record { answer = Wrote (size k); bytes = written k line ++ drop (size k) out })) (refuse 1 out)
 
-  pub wrote : (m : ℕ) → writeAs k line out .answer ≡ Wrote m → T (writable k line) × (size k ≤ length out) × (m ≡ size k)
+  pub wrote : (m : ℕ) → writeAs k line out .answer ≡ Wrote m
+      → T (writable k line) × (size k ≤ length out) × (m ≡ size k)
   unfolding writeAs outcome
   wrote m = go (writable k line) (ltb (length out) (size k)) refl
     where
-      go : (p q : Bool) → ltb (length out) (size k) ≡ q → outcome p q .answer ≡ Wrote m → T p × (size k ≤ length out) × (m ≡ size k)
+      go : (p q : Bool) → ltb (length out) (size k) ≡ q → outcome p q .answer ≡ Wrote m
+          → T p × (size k ≤ length out) × (m ≡ size k)
       go true true t e = let z : _≡_ {A = ℕ} 0 1 = cc in absurd (omega arith)
       go true false t e = (tt, ltb-false (length out) (size k) t, cc)
       go false q t e = let z : _≡_ {A = ℕ} 0 1 = cc in absurd (omega arith)
@@ -221,7 +248,8 @@ module _ (k : Kind) (line out : List ℕ) where
       go false q e = refl
 
 -- the front of the output reads as what was written there
-pub read-front : (k : Kind) → Lawful k → (v : Said) (out : List ℕ) → T (writable k (figures v)) → size k ≤ length out → readAs k (take (size k) (writeAs k (figures v) out .bytes)) ≡ v
+pub read-front : (k : Kind) → Lawful k → (v : Said) (out : List ℕ) → T (writable k (figures v)) → size k ≤ length out
+    → readAs k (take (size k) (writeAs k (figures v) out .bytes)) ≡ v
 read-front k l v out w h = ap (readAs k) (put-front k (figures v) out w h .1) ∙ read-value k l v w
 
 -- two outcomes that a promise allows are one
@@ -236,57 +264,60 @@ seen (suc n) i line = getD line i 0 ∷ seen n (suc i) line
 seen-all : (n i : ℕ) (line : List ℕ) → i + n ≡ length line → seen n i line ≡ drop i line
 unfolding seen
 seen-all zero i line e = let h : length line ≤ i = omega arith in sym (drop-of-length-le line h)
-seen-all (suc n) i line e = rw (drop-cons line i 0 (omega arith)) (ap (λ (r : List ℕ). getD line i 0 ∷ r) (seen-all n (suc i) line (omega arith)))
+seen-all (suc n) i line e =
+    rw (drop-cons line i 0 (omega arith))
+    (ap (λ (r : List ℕ). getD line i 0 ∷ r) (seen-all n (suc i) line (omega arith)))
 
 -- a line is its number and its values one by one
-one-by-one : (number n : ℕ) (line : List ℕ) → length line ≡ suc n → getD line 0 0 ≡ number → number ∷ seen n 1 line ≡ line
+one-by-one : (number n : ℕ) (line : List ℕ) → length line ≡ suc n → getD line 0 0 ≡ number
+    → number ∷ seen n 1 line ≡ line
 one-by-one number n [] e h = absurd (omega arith)
 one-by-one number n (x ∷ line) e h = ap₂ _∷_ (sym h) (seen-all n 1 (x ∷ line) (omega arith))
 
 pub lawful-head : Lawful headKind
 unfolding headKind bodyOf partsAt listOf seen
-lawful-head = record { long = refl; told = one-by-one 1 11 }
+lawful-head = record { long = refl; told = one-by-one headNumber (length headBody) }
 
 pub lawful-record : (n : ℕ) (m : Stamp) → Lawful (recordKind n m)
 unfolding recordKind bodyOf partsAt listOf seen
-lawful-record n m = record { long = refl; told = one-by-one 2 15 }
+lawful-record n m = record { long = refl; told = one-by-one recordNumber (length recordBody) }
 
 pub lawful-tap : (n : ℕ) → Lawful (tapKind n)
 unfolding tapKind bodyOf partsAt listOf seen
-lawful-tap n = record { long = refl; told = one-by-one 3 13 }
+lawful-tap n = record { long = refl; told = one-by-one tapNumber (length tapMessageBody) }
 
 pub lawful-question : (n : ℕ) → Lawful (questionKind n)
 unfolding questionKind bodyOf partsAt listOf seen
-lawful-question n = record { long = refl; told = one-by-one 4 9 }
+lawful-question n = record { long = refl; told = one-by-one questionNumber (length questionBody) }
 
 pub lawful-taken : Lawful takenKind
 unfolding takenKind bodyOf partsAt listOf seen
-lawful-taken = record { long = refl; told = one-by-one 5 8 }
+lawful-taken = record { long = refl; told = one-by-one takenNumber (length takenBody) }
 
 pub lawful-already : Lawful alreadyKind
 unfolding alreadyKind bodyOf partsAt listOf seen
-lawful-already = record { long = refl; told = one-by-one 6 8 }
+lawful-already = record { long = refl; told = one-by-one alreadyNumber (length alreadyBody) }
 
 pub lawful-verdict : Lawful verdictKind
 unfolding verdictKind bodyOf partsAt listOf seen
-lawful-verdict = record { long = refl; told = one-by-one 7 12 }
+lawful-verdict = record { long = refl; told = one-by-one verdictNumber (length verdictBody) }
 
 pub lawful-wait : Lawful waitKind
 unfolding waitKind bodyOf seen
-lawful-wait = record { long = refl; told = one-by-one 8 1 }
+lawful-wait = record { long = refl; told = one-by-one waitNumber (length waitBody) }
 
 pub lawful-refusal : Lawful refusalKind
 unfolding refusalKind bodyOf seen
-lawful-refusal = record { long = refl; told = one-by-one 9 1 }
+lawful-refusal = record { long = refl; told = one-by-one refusalNumber (length refusalBody) }
 
 pub lawful-gossip-taken : Lawful gossipTakenKind
 unfolding gossipTakenKind bodyOf seen
-lawful-gossip-taken = record { long = refl; told = one-by-one 10 2 }
+lawful-gossip-taken = record { long = refl; told = one-by-one gossipTakenNumber (length gossipTakenBody) }
 
 pub lawful-open : Lawful openKind
 unfolding openKind bodyOf seen
-lawful-open = record { long = refl; told = one-by-one 11 2 }
+lawful-open = record { long = refl; told = one-by-one openNumber (length openBody) }
 
 pub lawful-send : Lawful sendKind
 unfolding sendKind bodyOf seen
-lawful-send = record { long = refl; told = one-by-one 12 0 }
+lawful-send = record { long = refl; told = one-by-one sendNumber (length sendBody) }

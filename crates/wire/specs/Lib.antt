@@ -1,4 +1,5 @@
 pub mod Said
+pub mod Requests
 pub mod Kinds
 pub mod Read
 pub mod Write

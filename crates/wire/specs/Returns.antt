@@ -6,8 +6,8 @@ use mathlib.Core.List.{List, [], _∷_}
 use borrow.Author.Tests.{eq-eqb, eqb-true, not-true, not-false}
 use lib.Dec.{T, ltb, eqb}
 use lib.ListN.{length, getD}
-use Rattle.lists.specs.Facts.{and-r}
-use Rattle.fields.specs.Fields.{fieldsFit, putFields}
+use Rattle.lists.specs.TestLaws.{and-r}
+use Rattle.numbers.specs.Fields.{fieldsFit, putFields}
 use Rattle.wire.specs.declared.Said.the-variants as said
 use Rattle.wire.specs.declared.Written.{Written}
 use Rattle.wire.specs.declared.Written.the-variants.{Refused}
@@ -26,7 +26,10 @@ passed {answer} e h = sym e ∙ not-false answer h
 -- bytes of a kind have its length
 pub shaped-long : (k n : ℕ) (bytes : List ℕ) → bodyOf k ≡ Long n → shaped k bytes ≡ true → length bytes ≡ 1 + n
 unfolding shaped
-shaped-long k n bytes b e = eqb-true (length bytes) (1 + n) (tested (eqb (getD bytes 0 0) k) (eqb (length bytes) (1 + n)) (ap (λ x. eqb (getD bytes 0 0) k && isLong x (length bytes)) (sym b) ∙ e))
+shaped-long k n bytes b e =
+    eqb-true (length bytes) (1 + n)
+    (tested (eqb (getD bytes 0 0) k) (eqb (length bytes) (1 + n))
+    (ap (λ x. eqb (getD bytes 0 0) k && isLong x (length bytes)) (sym b) ∙ e))
   where
     tested : (p q : Bool) → (p && q) ≡ true → q ≡ true
     tested true q h = h
@@ -54,14 +57,18 @@ module _ (k : Kind) (bytes : List ℕ) where
     unfolding readAs readable
     kept r = rw (shape, ← same, r)
 
-pub meets : {o : Output} (answer : Written) (bytes : List ℕ) → o ≡ record { answer = answer; bytes = bytes } → Meets o answer bytes
-meets answer bytes e = record { answers = ap (λ (o : Output). o .answer) (sym e); leaves = ap (λ (o : Output). o .bytes) (sym e) }
+pub meets : {o : Output} (answer : Written) (bytes : List ℕ) → o ≡ record { answer = answer; bytes = bytes }
+    → Meets o answer bytes
+meets answer bytes e = record
+    { answers = ap (λ (o : Output). o .answer) (sym e); leaves = ap (λ (o : Output). o .bytes) (sym e) }
 
 module _ (k : Kind) (line out : List ℕ) (numbered : getD line 0 0 ≡ k .number) where
   pub broken : k .rules line ≡ false → Meets (writeAs k line out) (Refused 1) out
   unfolding writeAs writable
-  broken e = meets (Refused 1) out (rw (eq-eqb (getD line 0 0) (k .number) numbered, e, and-false (fieldsFit (widths k) line)))
+  broken e = meets (Refused 1) out
+      (rw (eq-eqb (getD line 0 0) (k .number) numbered, e, and-false (fieldsFit (widths k) line)))
 
-  pub put : (answer : Written) (bytes : List ℕ) → k .rules line ≡ true → Meets (putLine (widths k) line out) answer bytes → Meets (writeAs k line out) answer bytes
+  pub put : (answer : Written) (bytes : List ℕ) → k .rules line ≡ true
+      → Meets (putLine (widths k) line out) answer bytes → Meets (writeAs k line out) answer bytes
   unfolding writeAs writable written putLine putFields
   put answer bytes e m = rw (eq-eqb (getD line 0 0) (k .number) numbered, e, and-true (fieldsFit (widths k) line)) m

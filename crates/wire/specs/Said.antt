@@ -14,7 +14,8 @@ figures (said.Tap tap label) = 3 ∷ fields tap ++ listOf label
 figures (said.Question prompt label) = 4 ∷ prompt ∷ listOf label
 figures (said.Taken stamp) = 5 ∷ listOf stamp
 figures (said.Already stamp) = 6 ∷ listOf stamp
-figures (said.Verdict verdict showing accepts declines value) = 7 ∷ verdict ∷ showing ∷ accepts ∷ declines ∷ listOf value
+figures (said.Verdict verdict showing accepts declines value) =
+    7 ∷ verdict ∷ showing ∷ accepts ∷ declines ∷ listOf value
 figures (said.Wait bits) = 8 ∷ bits ∷ []
 figures (said.Refusal number) = 9 ∷ number ∷ []
 figures (said.GossipTaken new applied) = 10 ∷ new ∷ applied ∷ []

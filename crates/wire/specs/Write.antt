@@ -5,7 +5,7 @@ use mathlib.Core.Bool.{Bool, _&&_, cond}
 use mathlib.Core.List.{List, _++_}
 use lib.Dec.{eqb, ltb}
 use lib.ListN.{length, getD, drop}
-use Rattle.fields.specs.Fields.{writeFields, fieldsFit, putFields}
+use Rattle.numbers.specs.Fields.{writeFields, fieldsFit, putFields}
 use Rattle.stamp.specs.Stamp.{total}
 use Rattle.wire.specs.declared.Written.{Written}
 use Rattle.wire.specs.declared.Written.the-variants.{Wrote, Refused}
@@ -36,10 +36,13 @@ written k line = writeFields (widths k) line
 unfoldable pub writeAs : Kind → List ℕ → List ℕ → Output
 writeAs k line out =
     cond (writable k line)
-    (cond (ltb (length out) (size k)) (refuse 12 out) (record { answer = Wrote (size k); bytes = written k line ++ drop (size k) out }))
+    (cond (ltb (length out) (size k)) (refuse 12 out)
+    (record { answer = Wrote (size k); bytes = written k line ++ drop (size k) out }))
     (refuse 1 out)
 
 -- the last step of every writer, where the number and the rules are in order
 unfoldable pub putLine : List ℕ → List ℕ → List ℕ → Output
 putLine ws line out =
-    cond (fieldsFit ws line) (cond (ltb (length out) (total ws)) (refuse 12 out) (record { answer = Wrote (total ws); bytes = putFields ws line out })) (refuse 1 out)
+    cond (fieldsFit ws line)
+    (cond (ltb (length out) (total ws)) (refuse 12 out)
+    (record { answer = Wrote (total ws); bytes = putFields ws line out })) (refuse 1 out)

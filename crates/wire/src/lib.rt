@@ -1,12 +1,14 @@
 // The wire's kinds of message: what each says, how long it is, and the two steps that every reader and writer takes.
-use fields::fields_fit;
-use fields::put_fields;
-use ledger::LOG_ROOM;
+use limits::LOG_ROOM;
+use limits::PARTS;
+use numbers::fields_fit;
+use numbers::put_fields;
 use stamp::Parts;
 use tally::Tap;
 ghost use mathlib.Core.Path.{_≡_};
 ghost use Rattle.stamp.specs.Stamp.{total};
 ghost use Rattle.wire.specs.Kinds.{bodyOf, shaped};
+ghost use Rattle.wire.specs.Requests.{replyRoom};
 ghost use Rattle.wire.specs.Write.{Meets, putLine};
 
 // What a message says, in the order of the kinds; or that the bytes are refused.
@@ -66,38 +68,48 @@ pub enum Body {
     Bad(u64),
 }
 
+// The bytes of a stamp's part, and of a bit for each part.
+pub const PART_WIDTH: usize = 4;
+
+pub const BITS_WIDTH: usize = (PARTS + 7) / 8;
+
+// A stamp's bytes, and those of a tap's five fields.
+const STAMP_BODY: usize = PARTS * PART_WIDTH;
+
+const TAP_FIELDS_BODY: usize = 9;
+
 // The kinds, each with its body's length.
 pub const HEAD: u8 = 1;
 
-pub const HEAD_BODY: usize = 36;
+pub const HEAD_BODY: usize = 4 + STAMP_BODY;
 
 pub const RECORD: u8 = 2;
 
-pub const RECORD_BODY: usize = 46;
+pub const RECORD_BODY: usize = 5 + STAMP_BODY + TAP_FIELDS_BODY;
 
 pub const TAP: u8 = 3;
 
-pub const TAP_BODY: usize = 41;
+pub const TAP_BODY: usize = TAP_FIELDS_BODY + STAMP_BODY;
 
 pub const QUESTION: u8 = 4;
 
-pub const QUESTION_BODY: usize = 33;
+pub const QUESTION_BODY: usize = 1 + STAMP_BODY;
 
 pub const TAKEN: u8 = 5;
 
-pub const TAKEN_BODY: usize = 32;
+pub const TAKEN_BODY: usize = STAMP_BODY;
 
 pub const ALREADY: u8 = 6;
 
-pub const ALREADY_BODY: usize = 32;
+pub const ALREADY_BODY: usize = STAMP_BODY;
 
 pub const VERDICT: u8 = 7;
 
-pub const VERDICT_BODY: usize = 43;
+pub const VERDICT_BODY: usize = 11 + STAMP_BODY;
 
 pub const WAIT: u8 = 8;
 
-pub const WAIT_BODY: usize = 1;
+pub const WAIT_BODY: usize = BITS_WIDTH;
 
 pub const REFUSAL: u8 = 9;
 
@@ -115,7 +127,8 @@ pub const SEND: u8 = 12;
 
 pub const SEND_BODY: usize = 0;
 
-// A message is one byte of kind and its body. A gossip message is a head and then records, at most as many as a log holds.
+// A message is one byte of kind and its body. A gossip message is a head and then records, at most as many as a log
+// holds.
 pub const KIND_SIZE: usize = 1;
 
 pub const HEAD_SIZE: usize = KIND_SIZE + HEAD_BODY;
@@ -150,6 +163,26 @@ pub fn body_of(kind: u8) -> Body
     }
 }
 
+// The longest replies to gossip, a tap and a question.
+const GOSSIP_ROOM: usize = KIND_SIZE + GOSSIP_TAKEN_BODY;
+
+const TAP_ROOM: usize = KIND_SIZE + TAKEN_BODY;
+
+const QUESTION_ROOM: usize = KIND_SIZE + VERDICT_BODY;
+
+// The room that is always enough for the reply to a request of this kind; 0 where the kind is no request's.
+pub fn room_of(kind: u8) -> usize
+    ensures { λ r. ⌜ r ≡ replyRoom kind ⌝ }
+{
+    match kind {
+        HEAD => GOSSIP_ROOM,
+        TAP => TAP_ROOM,
+        QUESTION => QUESTION_ROOM,
+        SEND => LONGEST,
+        _ => 0,
+    }
+}
+
 // Whether the bytes are of this kind and of its length.
 pub fn is_kind(msg: &[u8], kind: u8) -> bool
     ensures { λ r. ⌜ r ≡ shaped kind (now (msg .entry)) ⌝ }
@@ -168,7 +201,8 @@ pub fn is_kind(msg: &[u8], kind: u8) -> bool
     msg.len() - 1 == long
 }
 
-// The row of numbers at the front of out: refused with 1 where one does not fit its width, then with 12 where out is too short.
+// The row of numbers at the front of out: refused with 1 where one does not fit its width, then with 12 where out is
+// too short.
 pub fn put_line(ws: &[usize], long: usize, line: &[u64], out: &mut [u8]) -> Written
     requires { ⌜ total (now ws) ≡ long ⌝ }
     ensures { λ r. ⌜ Meets (putLine (now (ws .entry)) (now (line .entry)) (now (out .entry))) r (now (out .exit)) ⌝ }

@@ -1,8 +1,11 @@
-//! Prints what the proved library and the ordinary Rust version take for the same messages, in one run.
+//! Prints what the proved library and the ordinary Rust version take for the same messages, in one run; or lets one
+//! side do one work, for a counter of instructions (`run.sh`).
 
+mod count;
 mod work;
 
 use std::hint::black_box;
+use std::process::ExitCode;
 use std::time::{Duration, Instant};
 
 use work::Work;
@@ -14,12 +17,48 @@ const NOTES: &str = "\
 The two sides take turns. Books and messages are made before the clock starts, the books anew for each
 round, so they are in the cache as far as they fit; the one buffer for replies is not cleared between
 answers. A message of one byte has the book judged alone: it is refused once the book is found sound.
-A full book has 1,024 counted taps, of which 256 are in the log.";
+A full book knows and has counted all that it may, and its log is full.";
+
+const USAGE: &str = "\
+usage: bench                     the tables of times
+       bench works               the names of the works, one to a line
+       bench count SIDE NUMBER   the work of that number, from 1, done once by `proved` or `plain`";
 
 /// One side of the comparison: answers a message on lent words.
 type Answer = fn(&mut [u64], &[u8], &mut [u8]) -> usize;
 
-fn main() {
+/// The sides by name.
+const SIDES: [(&str, Answer); 2] = [("proved", consent::lent::answer), ("plain", plain::entry::answer)];
+
+fn main() -> ExitCode {
+    let arguments: Vec<String> = std::env::args().skip(1).collect();
+    match arguments.iter().map(String::as_str).collect::<Vec<_>>()[..] {
+        [] => times(),
+        ["works"] => work::works().iter().for_each(|work| println!("{}", work.name)),
+        ["count", side, number] => match (side_of(side), work_of(number)) {
+            (Some(answer), Some(work)) => count::once(&work, answer),
+            _ => return misused(),
+        },
+        _ => return misused(),
+    }
+    ExitCode::SUCCESS
+}
+
+fn misused() -> ExitCode {
+    eprintln!("{USAGE}");
+    ExitCode::FAILURE
+}
+
+fn side_of(name: &str) -> Option<Answer> {
+    SIDES.into_iter().find_map(|(side, answer)| (side == name).then_some(answer))
+}
+
+fn work_of(number: &str) -> Option<Work> {
+    let before = number.parse::<usize>().ok()?.checked_sub(1)?;
+    work::works().into_iter().nth(before)
+}
+
+fn times() {
     if cfg!(debug_assertions) {
         eprintln!("This is no release build; run it with `cargo run --release -p bench`.");
     }
@@ -35,7 +74,7 @@ fn main() {
 fn table(title: &str, works: &[Work]) {
     println!("{title:44} {:>12} {:>12} {:>8}", "proved", "plain", "ratio");
     for work in works {
-        let [proved, plain] = quickest(work, [consent::lent::answer, plain::entry::answer]);
+        let [proved, plain] = quickest(work, SIDES.map(|(_, answer)| answer));
         let ratio = proved.as_secs_f64() / plain.as_secs_f64();
         println!("{:44} {:>12} {:>12} {:>8.2}", work.name, shown(proved), shown(plain), ratio);
     }

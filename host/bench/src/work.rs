@@ -1,21 +1,19 @@
-//! The work that is timed.
+//! The work that is timed, and whose instructions are counted.
 
+use consent::numbers::{KIND_GOSSIP_TAKEN, KIND_REFUSAL, KIND_TAKEN, KIND_VERDICT, LONGEST_GOSSIP, PROMPTS};
 use consent::{Answer, Gossip, Question, Record, Request, Stamp, Tap};
-use plain::{HEAD_BYTES, RECORD_BYTES};
 
 /// The longest reply: a send with a full log.
-pub const LONGEST_REPLY: usize = HEAD_BYTES + LOG_ROOM as usize * RECORD_BYTES;
-
-const TAKEN: u8 = 5;
-const VERDICT: u8 = 7;
-const REFUSED: u8 = 9;
-const GOSSIP_TAKEN: u8 = 10;
+pub const LONGEST_REPLY: usize = LONGEST_GOSSIP;
 
 /// So many taps or questions make a step that is timed.
 const STEP: u32 = 5;
 
-const LOG_ROOM: u32 = 256;
-const KNOWN_ROOM: u32 = 1024;
+/// So many records are in each gossip that is timed.
+const BROUGHT: u32 = 200;
+
+const LOG_ROOM: u32 = consent::numbers::LOG_ROOM as u32;
+const KNOWN_ROOM: u32 = consent::numbers::KNOWN_ROOM as u32;
 
 /// Messages to one book that get the same kind of reply; only those that count are timed.
 pub struct Step {
@@ -33,7 +31,13 @@ pub struct Work {
 }
 
 pub fn works() -> Vec<Work> {
-    vec![taps(), questions(), gossips(), full("soundness of a full book, 1,000 times", tap)]
+    vec![
+        taps(),
+        questions(),
+        gossips(),
+        gossips_five_to_a_book(),
+        full("soundness of a full book, 1,000 times", tap),
+    ]
 }
 
 /// What of the works is the judging of the book; and full books that differ in the order of their taps alone.
@@ -53,24 +57,24 @@ fn judging(name: &'static str, work: Work) -> Work {
     for step in work.steps {
         if step.counts {
             let messages = step.messages.iter().map(|message| cut(message)).collect();
-            steps.push(Step { book: step.book, messages, reply: REFUSED, counts: true });
+            steps.push(Step { book: step.book, messages, reply: KIND_REFUSAL, counts: true });
         }
         steps.push(Step { counts: false, ..step });
     }
     Work { name, books: work.books, steps }
 }
 
-/// A log holds 256, so after every 250 taps the other screen says, untimed, that it has them.
+/// A log would be full before the end, so after every 250 taps the other screen says, untimed, that it has them.
 fn taps() -> Work {
     let mut steps = Vec::new();
     for from in (0..1000).step_by(STEP as usize) {
         let messages =
             (from..from + STEP).map(|serial| Request::Tap(tap(serial), Stamp::ZERO).encode()).collect();
-        steps.push(Step { book: 0, messages, reply: TAKEN, counts: true });
+        steps.push(Step { book: 0, messages, reply: KIND_TAKEN, counts: true });
         let known = from + STEP;
         if known.is_multiple_of(250) {
             let told = gossip(2, first(0, known), Vec::new());
-            steps.push(Step { book: 0, messages: vec![told], reply: GOSSIP_TAKEN, counts: false });
+            steps.push(Step { book: 0, messages: vec![told], reply: KIND_GOSSIP_TAKEN, counts: false });
         }
     }
     Work { name: "1,000 taps, from a fresh book", books: vec![fresh(2)], steps }
@@ -81,29 +85,41 @@ fn questions() -> Work {
     Work {
         name: "1,000 questions, 1,000 counted, log empty",
         books: vec![book],
-        steps: thousand(question, VERDICT),
+        steps: thousand(question, KIND_VERDICT),
     }
 }
 
-/// A book may know 1,024 records, so each message has a fresh book of its own.
+/// Each message has a fresh book of its own; the third screen has not heard, so all stay in the log.
 fn gossips() -> Work {
-    let message = gossip(3, first(1, 200), records(1, 200, tap));
-    let steps = (0..100).map(|book| Step {
+    gossips_to("100 gossips of 200 records, to fresh books", 3, 1)
+}
+
+/// A book takes five such messages before it is spent; both screens know them, so none stays in the log.
+fn gossips_five_to_a_book() -> Work {
+    gossips_to("100 gossips of 200 records, five to a book", 2, 5)
+}
+
+/// A hundred gossips to books of a house of so many screens, so many to each book.
+fn gossips_to(name: &'static str, screens: u8, to_a_book: u32) -> Work {
+    let books = 100 / to_a_book as usize;
+    let messages: Vec<Vec<u8>> = (1..=to_a_book)
+        .map(|nth| {
+            gossip(screens, first(1, nth * BROUGHT), records((nth - 1) * BROUGHT + 1, nth * BROUGHT, tap))
+        })
+        .collect();
+    let step = |book, message: &Vec<u8>| Step {
         book,
         messages: vec![message.clone()],
-        reply: GOSSIP_TAKEN,
+        reply: KIND_GOSSIP_TAKEN,
         counts: true,
-    });
-    Work {
-        name: "100 gossips of 200 records, to fresh books",
-        steps: steps.collect(),
-        books: vec![fresh(3); 100],
-    }
+    };
+    let steps = (0..books).flat_map(|book| messages.iter().map(move |message| step(book, message))).collect();
+    Work { name, steps, books: vec![fresh(screens.into()); books] }
 }
 
 fn full(name: &'static str, tap: fn(u32) -> Tap) -> Work {
     let book = after(&filling(tap));
-    Work { name, books: vec![book], steps: thousand(|prompt| cut(&question(prompt)), REFUSED) }
+    Work { name, books: vec![book], steps: thousand(|prompt| cut(&question(prompt)), KIND_REFUSAL) }
 }
 
 fn thousand(message: fn(u8) -> Vec<u8>, reply: u8) -> Vec<Step> {
@@ -119,7 +135,7 @@ fn cut(message: &[u8]) -> Vec<u8> {
     message[..1].to_vec()
 }
 
-/// Fills a book of three screens: 1,024 counted taps, the last 256 of them in the log, since screen 2 lacks them.
+/// Fills a book of three screens to the brim: the last taps are in the log, since screen 2 lacks them.
 fn filling(tap: fn(u32) -> Tap) -> Work {
     let mut messages = Vec::new();
     for known in (LOG_ROOM..=KNOWN_ROOM).step_by(LOG_ROOM as usize) {
@@ -131,7 +147,7 @@ fn filling(tap: fn(u32) -> Tap) -> Work {
             messages.push(told);
         }
     }
-    let step = Step { book: 0, messages, reply: GOSSIP_TAKEN, counts: false };
+    let step = Step { book: 0, messages, reply: KIND_GOSSIP_TAKEN, counts: false };
     Work { name: "filling", books: vec![fresh(3)], steps: vec![step] }
 }
 
@@ -157,7 +173,7 @@ fn tap(serial: u32) -> Tap {
     Tap {
         front_end: (serial * 37) as u8,
         serial,
-        prompt: (serial % 64) as u8,
+        prompt: (serial % PROMPTS as u32) as u8,
         showing: 1 + (serial % 5) as u16,
         answer,
     }
@@ -191,5 +207,5 @@ fn records(from: u32, to: u32, tap: fn(u32) -> Tap) -> Vec<Record> {
 
 /// Gossip from screen 1.
 fn gossip(screens: u8, stamp: Stamp, records: Vec<Record>) -> Vec<u8> {
-    Gossip { sender: 1, screens, stamp, records }.encode().expect("at most 256 records")
+    Gossip { sender: 1, screens, stamp, records }.encode().expect("no more records than gossip may bring")
 }

@@ -13,7 +13,7 @@ show [SCREEN]
     the book of a screen, or of all
 help
 quit
-Screens count from 0, prompts are 0 to 63. A line from # on is a remark.
+Screens and prompts count from 0. A line from # on is a remark.
 ";
 
 /// One line, understood.
@@ -103,7 +103,7 @@ fn label_in(words: &[&str]) -> Result<Stamp, String> {
 fn label(text: &str) -> Result<Stamp, String> {
     let mut stamp = Stamp::ZERO;
     for (at, part) in text.split(',').enumerate() {
-        *stamp.0.get_mut(at).ok_or("A label has at most eight parts.")? = number(part)?;
+        *stamp.0.get_mut(at).ok_or("A label has no such part.")? = number(part)?;
     }
     Ok(stamp)
 }

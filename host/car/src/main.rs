@@ -10,10 +10,7 @@ use std::process::ExitCode;
 
 use car::Car;
 use command::{Command, HELP};
-
-const USAGE: &str = "usage: car SCREENS [SCRIPT]
-  SCREENS  2 to 8
-  SCRIPT   a file of commands, one to a line; without it they are read from standard input";
+use consent::numbers::{LEAST_SCREENS, MOST_SCREENS};
 
 fn main() -> ExitCode {
     let arguments: Vec<String> = std::env::args().skip(1).collect();
@@ -26,14 +23,22 @@ fn main() -> ExitCode {
     }
 }
 
+fn usage() -> String {
+    format!(
+        "usage: car SCREENS [SCRIPT]
+  SCREENS  {LEAST_SCREENS} to {MOST_SCREENS}
+  SCRIPT   a file of commands, one to a line; without it they are read from standard input"
+    )
+}
+
 fn run(arguments: &[String]) -> Result<(), String> {
     let (screens, script) = match arguments {
         [screens] => (screens, None),
         [screens, script] => (screens, Some(script)),
-        _ => return Err(USAGE.to_string()),
+        _ => return Err(usage()),
     };
-    let screens = screens.parse().map_err(|_| USAGE)?;
-    let mut car = Car::open(screens).map_err(|refusal| format!("{refusal}\n{USAGE}"))?;
+    let screens = screens.parse().map_err(|_| usage())?;
+    let mut car = Car::open(screens).map_err(|refusal| format!("{refusal}\n{}", usage()))?;
     match script {
         Some(path) => {
             let file = File::open(path).map_err(|error| format!("{path}: {error}"))?;

@@ -1,5 +1,6 @@
 //! Books and their parts in words and tables.
 
+use consent::numbers::STAMP_PARTS;
 use consent::{Answer, Book, Contents, Record, Stamp, Verdict};
 
 /// The first parts of a stamp, as many as there are screens.
@@ -10,7 +11,8 @@ pub fn stamp(stamp: &Stamp, screens: usize) -> String {
 
 /// The screens whose bits are set.
 pub fn screens(bits: u8) -> String {
-    let names: Vec<String> = (0..8).filter(|k| bits >> k & 1 == 1).map(|k| format!("screen {k}")).collect();
+    let names: Vec<String> =
+        (0..STAMP_PARTS).filter(|k| bits >> k & 1 == 1).map(|k| format!("screen {k}")).collect();
     names.join(" and ")
 }
 

@@ -3,10 +3,8 @@
 use crate::contents::Contents;
 use crate::ffi;
 use crate::message::{is_gossip, Reply, Request};
+use crate::numbers::{BOOK_WORDS, SHORT_REPLY};
 use crate::values::{Question, Refusal, Stamp, Standing, Tap};
-
-/// The longest reply to a tap, a question or gossip: room enough for each.
-const SHORT_REPLY: usize = 44;
 
 /// The book of one screen, which owns its memory.
 ///
@@ -46,9 +44,9 @@ pub struct GossipTaken {
 }
 
 impl Book {
-    /// The fresh book of that screen, from 0, in a house of 2 to 8.
+    /// The fresh book of that screen, from 0, in a house of so many.
     pub fn open(screen: u8, screens: u8) -> Result<Book, Refusal> {
-        let mut words = vec![0; ffi::book_words()].into_boxed_slice();
+        let mut words = vec![0; BOOK_WORDS].into_boxed_slice();
         match ffi::open(&mut words, screen.into(), screens.into()) {
             0 => Ok(Book { words }),
             number => {

@@ -1,14 +1,7 @@
-//! What stands in a book's words. The offsets follow docs/LAYOUT.md, since the library exports none.
+//! What stands in a book's words, by the layout of docs/LAYOUT.md.
 
+use crate::numbers::*;
 use crate::values::{Answer, Record, Stamp, Standing, Tap, Verdict};
-
-const TABLE: usize = 4;
-const VALUE: usize = 68;
-const LOG: usize = 76;
-const COUNTED: usize = 2892;
-const PROMPTS: usize = 3916;
-const END: usize = 4108;
-const RECORD_WORDS: usize = 11;
 
 /// What stands in a book, to look at. It is read by the documented layout and not judged.
 #[derive(Clone, Debug, PartialEq, Eq)]
@@ -25,28 +18,30 @@ pub struct Contents {
     pub log: Vec<Record>,
     /// The distinct taps of applied records, in order of their fields.
     pub counted: Vec<Tap>,
-    /// Where each of the 64 prompts stands.
+    /// Where each prompt stands.
     pub prompts: Vec<Standing>,
 }
 
 impl Contents {
     /// What stands in these words; none where the length is wrong or a number is out of its range.
     pub fn of(words: &[u64]) -> Option<Contents> {
-        if words.len() != END {
+        if words.len() != BOOK_WORDS {
             return None;
         }
-        let screens = u8::try_from(words[1]).ok().filter(|&screens| screens <= 8)?;
-        let rows = words[TABLE..VALUE].chunks_exact(8).take(screens.into());
-        let records = words[LOG..COUNTED].chunks_exact(RECORD_WORDS).take(words[2].try_into().ok()?);
-        let counted = words[COUNTED..PROMPTS].iter().take(words[3].try_into().ok()?);
+        let screens =
+            u8::try_from(words[AT_SCREENS]).ok().filter(|&screens| usize::from(screens) <= MOST_SCREENS)?;
+        let rows = words[AT_TABLE..AT_VALUE].chunks_exact(STAMP_PARTS).take(screens.into());
+        let records =
+            words[AT_LOG..AT_COUNTED].chunks_exact(RECORD_WORDS).take(words[AT_LOGGED].try_into().ok()?);
+        let counted = words[AT_COUNTED..AT_PROMPTS].iter().take(words[AT_COUNTED_TAPS].try_into().ok()?);
         Some(Contents {
-            screen: u8::try_from(words[0]).ok().filter(|&screen| screen < screens)?,
+            screen: u8::try_from(words[AT_SCREEN]).ok().filter(|&screen| screen < screens)?,
             screens,
             table: rows.map(stamp).collect::<Option<_>>()?,
-            value: stamp(&words[VALUE..LOG])?,
+            value: stamp(&words[AT_VALUE..AT_LOG])?,
             log: records.map(record).collect::<Option<_>>()?,
             counted: counted.map(|&word| tap(word)).collect::<Option<_>>()?,
-            prompts: words[PROMPTS..].chunks_exact(3).map(standing).collect::<Option<_>>()?,
+            prompts: words[AT_PROMPTS..].chunks_exact(PROMPT_WORDS).map(standing).collect::<Option<_>>()?,
         })
     }
 
@@ -70,22 +65,26 @@ fn stamp(words: &[u64]) -> Option<Stamp> {
 }
 
 fn record(words: &[u64]) -> Option<Record> {
+    let [origin, number, label @ .., word] = words else {
+        return None;
+    };
     Some(Record {
-        origin: words[0].try_into().ok()?,
-        number: words[1].try_into().ok()?,
-        label: stamp(&words[2..10])?,
-        tap: tap(words[10])?,
+        origin: (*origin).try_into().ok()?,
+        number: (*number).try_into().ok()?,
+        label: stamp(label)?,
+        tap: tap(*word)?,
     })
 }
 
-/// From the top of the word: front end 8 bits, serial 32, prompt 6, showing 16, answer 2.
+/// Prompt and answer are narrower than any type: each ends where the next field starts.
 fn tap(word: u64) -> Option<Tap> {
+    let lowest = |count: u32| (1 << count) - 1;
     Some(Tap {
-        front_end: (word >> 56) as u8,
-        serial: (word >> 24) as u32,
-        prompt: (word >> 18) as u8 & 0x3f,
-        showing: (word >> 2) as u16,
-        answer: Answer::from_number(word as u8 & 3)?,
+        front_end: (word >> BIT_OF_FRONT_END) as u8,
+        serial: (word >> BIT_OF_SERIAL) as u32,
+        prompt: (word >> BIT_OF_PROMPT) as u8 & lowest(BIT_OF_SERIAL - BIT_OF_PROMPT),
+        showing: (word >> BIT_OF_SHOWING) as u16,
+        answer: Answer::from_number(word as u8 & lowest(BIT_OF_SHOWING - BIT_OF_ANSWER))?,
     })
 }
 

@@ -33,10 +33,10 @@ pub fn open(book: &mut [u64], screen: u64, screens: u64) -> u64 {
     unsafe { library::consent_open(book.as_mut_ptr(), book.len(), screen, screens) }
 }
 
-/// Answers one whole message of kind 1, 3, 4 or 12 at the front of `reply` and gives the reply's length.
+/// Answers one whole tap, question, gossip or send at the front of `reply` and gives the reply's length.
 ///
 /// 0 exactly when the very reply is longer than `reply`: then nothing changes, and a tap or gossip that would be taken
-/// is not. Two bytes hold every refusal; [`reply_room`] is always enough.
+/// is not. [`reply_room`] is always enough.
 pub fn answer(book: &mut [u64], message: &[u8], reply: &mut [u8]) -> usize {
     let (message_at, reply_at) = (message.as_ptr(), reply.as_mut_ptr());
     // SAFETY: pointers and lengths are the slices' own, and the slices do not overlap.
@@ -52,7 +52,7 @@ pub fn answer(book: &mut [u64], message: &[u8], reply: &mut [u8]) -> usize {
     }
 }
 
-/// Yes or no for a question (kind 4); anything else is a no.
+/// Yes or no for a question; anything else is a no.
 pub fn permission(book: &[u64], message: &[u8]) -> bool {
     // SAFETY: pointers and lengths are the slices' own.
     unsafe { library::consent_permission(book.as_ptr(), book.len(), message.as_ptr(), message.len()) }
@@ -64,7 +64,7 @@ pub fn reply_room(message: &[u8]) -> usize {
     unsafe { library::consent_reply_room(message.as_ptr(), message.len()) }
 }
 
-/// Which reply the bytes are, 5 to 10; 0 when they are none that keeps its field rules.
+/// Which reply the bytes are, by its kind; 0 when they are none that keeps its field rules.
 pub fn reply_kind(reply: &[u8]) -> u8 {
     // SAFETY: pointer and length are the slice's own.
     unsafe { library::consent_reply_kind(reply.as_ptr(), reply.len()) }

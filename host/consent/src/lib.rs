@@ -38,7 +38,7 @@
 //!
 //! # Memory
 //!
-//! A book is [`book_words`](lent::book_words) words, never more. A host that keeps the memory itself uses [`lent`].
+//! A book is [`BOOK_WORDS`](numbers::BOOK_WORDS) words, never more. A host that keeps the memory itself uses [`lent`].
 
 #![deny(unsafe_code)]
 #![warn(missing_docs)]
@@ -47,6 +47,7 @@ mod book;
 mod contents;
 mod ffi;
 mod message;
+pub mod numbers;
 mod values;
 
 pub use book::{Book, GossipTaken, QuestionAnswer, TapAnswer};

@@ -1,22 +1,10 @@
 //! Messages: requests, replies and gossip as values, and each as bytes (docs/WIRE.md).
 
+use crate::numbers::{
+    HEAD_BYTES, KIND_ALREADY, KIND_GOSSIP, KIND_GOSSIP_TAKEN, KIND_QUESTION, KIND_RECORD, KIND_REFUSAL,
+    KIND_SEND, KIND_TAKEN, KIND_TAP, KIND_VERDICT, KIND_WAIT, LOG_ROOM, PROMPTS, RECORD_BYTES, SHORT_REPLY,
+};
 use crate::values::{Answer, Question, Record, Refusal, Stamp, Standing, Tap, Verdict};
-
-const GOSSIP: u8 = 1;
-const RECORD: u8 = 2;
-const TAP: u8 = 3;
-const QUESTION: u8 = 4;
-const TAKEN: u8 = 5;
-const ALREADY: u8 = 6;
-const VERDICT: u8 = 7;
-const WAIT: u8 = 8;
-const REFUSAL: u8 = 9;
-const GOSSIP_TAKEN: u8 = 10;
-const SEND: u8 = 12;
-
-const HEAD_BYTES: usize = 37;
-const RECORD_BYTES: usize = 47;
-const MOST_RECORDS: usize = 256;
 
 /// What a screen can be asked.
 #[derive(Clone, Copy, Debug, PartialEq, Eq)]
@@ -71,19 +59,19 @@ pub struct Gossip {
 impl<'a> Request<'a> {
     /// The request as bytes.
     pub fn encode(&self) -> Vec<u8> {
-        let mut bytes = Vec::with_capacity(64);
+        let mut bytes = Vec::with_capacity(SHORT_REPLY);
         match self {
             Request::Tap(tap, label) => {
-                bytes.push(TAP);
+                bytes.push(KIND_TAP);
                 put_tap(&mut bytes, tap);
                 put_stamp(&mut bytes, label);
             }
             Request::Question(question) => {
-                bytes.extend([QUESTION, question.prompt]);
+                bytes.extend([KIND_QUESTION, question.prompt]);
                 put_stamp(&mut bytes, &question.label);
             }
             Request::Gossip(message) => bytes.extend(*message),
-            Request::Send => bytes.push(SEND),
+            Request::Send => bytes.push(KIND_SEND),
         }
         bytes
     }
@@ -92,10 +80,10 @@ impl<'a> Request<'a> {
     pub fn decode(bytes: &'a [u8]) -> Option<Request<'a>> {
         let mut reader = Reader(bytes);
         let request = match reader.u8()? {
-            TAP => Request::Tap(reader.tap()?, reader.stamp()?),
-            QUESTION => Request::Question(Question { prompt: reader.prompt()?, label: reader.stamp()? }),
-            GOSSIP => return Some(Request::Gossip(bytes)),
-            SEND => Request::Send,
+            KIND_TAP => Request::Tap(reader.tap()?, reader.stamp()?),
+            KIND_QUESTION => Request::Question(Question { prompt: reader.prompt()?, label: reader.stamp()? }),
+            KIND_GOSSIP => return Some(Request::Gossip(bytes)),
+            KIND_SEND => Request::Send,
             _ => return None,
         };
         reader.ended(request)
@@ -105,22 +93,22 @@ impl<'a> Request<'a> {
 impl Reply {
     /// The reply as bytes.
     pub fn encode(&self) -> Vec<u8> {
-        let mut bytes = Vec::with_capacity(64);
+        let mut bytes = Vec::with_capacity(SHORT_REPLY);
         match self {
             Reply::Gossip(message) => bytes.extend(message),
-            Reply::Taken(stamp) => put_stamped(&mut bytes, TAKEN, stamp),
-            Reply::Already(stamp) => put_stamped(&mut bytes, ALREADY, stamp),
+            Reply::Taken(stamp) => put_stamped(&mut bytes, KIND_TAKEN, stamp),
+            Reply::Already(stamp) => put_stamped(&mut bytes, KIND_ALREADY, stamp),
             Reply::Verdict(standing, value) => {
-                bytes.extend([VERDICT, standing.verdict.number()]);
+                bytes.extend([KIND_VERDICT, standing.verdict.number()]);
                 bytes.extend(standing.showing.to_be_bytes());
                 bytes.extend(standing.accepts.to_be_bytes());
                 bytes.extend(standing.declines.to_be_bytes());
                 put_stamp(&mut bytes, value);
             }
-            Reply::Wait(lacking) => bytes.extend([WAIT, *lacking]),
-            Reply::Refused(refusal) => bytes.extend([REFUSAL, refusal.number()]),
+            Reply::Wait(lacking) => bytes.extend([KIND_WAIT, *lacking]),
+            Reply::Refused(refusal) => bytes.extend([KIND_REFUSAL, refusal.number()]),
             Reply::GossipTaken { new, applied } => {
-                bytes.push(GOSSIP_TAKEN);
+                bytes.push(KIND_GOSSIP_TAKEN);
                 bytes.extend(new.to_be_bytes());
                 bytes.extend(applied.to_be_bytes());
             }
@@ -132,13 +120,13 @@ impl Reply {
     pub fn decode(bytes: &[u8]) -> Option<Reply> {
         let mut reader = Reader(bytes);
         let reply = match reader.u8()? {
-            GOSSIP => return Some(Reply::Gossip(bytes.to_vec())),
-            TAKEN => Reply::Taken(reader.stamp()?),
-            ALREADY => Reply::Already(reader.stamp()?),
-            VERDICT => Reply::Verdict(reader.standing()?, reader.stamp()?),
-            WAIT => Reply::Wait(reader.u8()?),
-            REFUSAL => Reply::Refused(Refusal::from_number(reader.u8()?)?),
-            GOSSIP_TAKEN => Reply::GossipTaken { new: reader.u16()?, applied: reader.u16()? },
+            KIND_GOSSIP => return Some(Reply::Gossip(bytes.to_vec())),
+            KIND_TAKEN => Reply::Taken(reader.stamp()?),
+            KIND_ALREADY => Reply::Already(reader.stamp()?),
+            KIND_VERDICT => Reply::Verdict(reader.standing()?, reader.stamp()?),
+            KIND_WAIT => Reply::Wait(reader.u8()?),
+            KIND_REFUSAL => Reply::Refused(Refusal::from_number(reader.u8()?)?),
+            KIND_GOSSIP_TAKEN => Reply::GossipTaken { new: reader.u16()?, applied: reader.u16()? },
             _ => return None,
         };
         reader.ended(reply)
@@ -148,15 +136,15 @@ impl Reply {
 impl Gossip {
     /// The message as bytes; none if it has more records than a message may.
     pub fn encode(&self) -> Option<Vec<u8>> {
-        if self.records.len() > MOST_RECORDS {
+        if self.records.len() > LOG_ROOM {
             return None;
         }
         let mut bytes = Vec::with_capacity(HEAD_BYTES + RECORD_BYTES * self.records.len());
-        bytes.extend([GOSSIP, self.sender, self.screens]);
+        bytes.extend([KIND_GOSSIP, self.sender, self.screens]);
         bytes.extend((self.records.len() as u16).to_be_bytes());
         put_stamp(&mut bytes, &self.stamp);
         for record in &self.records {
-            bytes.extend([RECORD, record.origin]);
+            bytes.extend([KIND_RECORD, record.origin]);
             bytes.extend(record.number.to_be_bytes());
             put_stamp(&mut bytes, &record.label);
             put_tap(&mut bytes, &record.tap);
@@ -167,7 +155,7 @@ impl Gossip {
     /// The message of these bytes: whole, with taps in range. The other field rules are the library's to judge.
     pub fn decode(bytes: &[u8]) -> Option<Gossip> {
         let mut reader = Reader(bytes);
-        if reader.u8()? != GOSSIP {
+        if reader.u8()? != KIND_GOSSIP {
             return None;
         }
         let (sender, screens, count) = (reader.u8()?, reader.u8()?, reader.u16()?);
@@ -182,7 +170,7 @@ impl Gossip {
 
 /// Whether the bytes have gossip's kind.
 pub(crate) fn is_gossip(bytes: &[u8]) -> bool {
-    bytes.first() == Some(&GOSSIP)
+    bytes.first() == Some(&KIND_GOSSIP)
 }
 
 fn put_tap(bytes: &mut Vec<u8>, tap: &Tap) {
@@ -233,7 +221,7 @@ impl Reader<'_> {
     }
 
     fn prompt(&mut self) -> Option<u8> {
-        self.u8().filter(|&prompt| prompt < 64)
+        self.u8().filter(|&prompt| usize::from(prompt) < PROMPTS)
     }
 
     fn tap(&mut self) -> Option<Tap> {
@@ -248,7 +236,7 @@ impl Reader<'_> {
     }
 
     fn record(&mut self) -> Option<Record> {
-        if self.u8()? != RECORD {
+        if self.u8()? != KIND_RECORD {
             return None;
         }
         Some(Record { origin: self.u8()?, number: self.u32()?, label: self.stamp()?, tap: self.tap()? })

@@ -3,9 +3,11 @@
 use std::error::Error;
 use std::fmt;
 
-/// How many records of each screen are meant: one part for each of up to eight screens.
+use crate::numbers::*;
+
+/// How many records of each screen are meant: the parts past the last screen are zero.
 #[derive(Clone, Copy, Debug, Default, PartialEq, Eq, Hash)]
-pub struct Stamp(pub [u32; 8]);
+pub struct Stamp(pub [u32; STAMP_PARTS]);
 
 /// What a person tapped.
 #[derive(Clone, Copy, Debug, PartialEq, Eq, PartialOrd, Ord, Hash)]
@@ -23,9 +25,9 @@ pub struct Tap {
     pub front_end: u8,
     /// The front end's own number of the touch.
     pub serial: u32,
-    /// What was asked, 0 to 63.
+    /// What was asked, below [`PROMPTS`].
     pub prompt: u8,
-    /// Which showing of the prompt was answered, from 1.
+    /// Which showing of the prompt was answered, from [`LEAST_SHOWING`].
     pub showing: u16,
     /// What was tapped.
     pub answer: Answer,
@@ -34,7 +36,7 @@ pub struct Tap {
 /// A question on a prompt: it is answered once the book has applied all that the label names.
 #[derive(Clone, Copy, Debug, PartialEq, Eq, Hash)]
 pub struct Question {
-    /// What was asked, 0 to 63.
+    /// What was asked, below [`PROMPTS`].
     pub prompt: u8,
     /// What the answer has to take into account.
     pub label: Stamp,
@@ -82,33 +84,33 @@ pub struct Standing {
 /// Why a request was refused. A refusal changes nothing.
 #[derive(Clone, Copy, Debug, PartialEq, Eq, Hash)]
 pub enum Refusal {
-    /// 1: the bytes are no message of the kind expected, or a value breaks a field rule.
+    /// The bytes are no message of the kind expected, or a value breaks a field rule.
     Malformed,
-    /// 2: no such house or screen; gossip of another house, or from the screen itself.
+    /// No such house or screen; gossip of another house, or from the screen itself.
     WrongHouse,
-    /// 3: the label names taps of this screen that it has not taken.
+    /// The label names taps of this screen that it has not taken.
     LabelAhead,
-    /// 4: the gossip brings nothing that its sender had not told.
+    /// The gossip brings nothing that its sender had not told.
     Old,
-    /// 5: the gossip is neither older nor newer than what its sender told.
+    /// The gossip is neither older nor newer than what its sender told.
     Crossed,
-    /// 6: the gossip claims taps of this screen that it has not taken.
+    /// The gossip claims taps of this screen that it has not taken.
     ClaimsOurs,
-    /// 7: the book may know no more taps.
+    /// The book may know no more taps.
     Spent,
-    /// 8: a tap that the gossip promises is missing.
+    /// A tap that the gossip promises is missing.
     Gap,
-    /// 9: the log has no room.
+    /// The log has no room.
     NoRoom,
-    /// 11: the lent book is damaged or of wrong length.
+    /// The lent book is damaged or of wrong length.
     Unsound,
-    /// 12: the output is too short.
+    /// The output is too short.
     ShortOutput,
 }
 
 impl Stamp {
     /// The stamp of nothing.
-    pub const ZERO: Stamp = Stamp([0; 8]);
+    pub const ZERO: Stamp = Stamp([0; STAMP_PARTS]);
 
     /// Whether every part of `other` is at most that part of this one.
     pub fn covers(&self, other: &Stamp) -> bool {
@@ -122,19 +124,19 @@ impl Stamp {
 }
 
 impl Answer {
-    /// 1 accept, 2 decline.
+    /// The answer's number.
     pub fn number(self) -> u8 {
         match self {
-            Answer::Accept => 1,
-            Answer::Decline => 2,
+            Answer::Accept => ANSWER_ACCEPT,
+            Answer::Decline => ANSWER_DECLINE,
         }
     }
 
     /// The answer of that number.
     pub fn from_number(number: u8) -> Option<Answer> {
         match number {
-            1 => Some(Answer::Accept),
-            2 => Some(Answer::Decline),
+            ANSWER_ACCEPT => Some(Answer::Accept),
+            ANSWER_DECLINE => Some(Answer::Decline),
             _ => None,
         }
     }
@@ -143,7 +145,7 @@ impl Answer {
 impl Tap {
     /// Whether prompt and showing are in range.
     pub fn is_in_range(&self) -> bool {
-        self.prompt < 64 && self.showing >= 1
+        usize::from(self.prompt) < PROMPTS && self.showing >= LEAST_SHOWING
     }
 }
 
@@ -167,23 +169,23 @@ impl Verdict {
         }
     }
 
-    /// 0 unasked, 1 accepted, 2 declined, 3 contested.
+    /// The verdict's number.
     pub fn number(self) -> u8 {
         match self {
-            Verdict::Unasked => 0,
-            Verdict::Accepted => 1,
-            Verdict::Declined => 2,
-            Verdict::Contested => 3,
+            Verdict::Unasked => VERDICT_UNASKED,
+            Verdict::Accepted => VERDICT_ACCEPTED,
+            Verdict::Declined => VERDICT_DECLINED,
+            Verdict::Contested => VERDICT_CONTESTED,
         }
     }
 
     /// The verdict of that number.
     pub fn from_number(number: u8) -> Option<Verdict> {
         match number {
-            0 => Some(Verdict::Unasked),
-            1 => Some(Verdict::Accepted),
-            2 => Some(Verdict::Declined),
-            3 => Some(Verdict::Contested),
+            VERDICT_UNASKED => Some(Verdict::Unasked),
+            VERDICT_ACCEPTED => Some(Verdict::Accepted),
+            VERDICT_DECLINED => Some(Verdict::Declined),
+            VERDICT_CONTESTED => Some(Verdict::Contested),
             _ => None,
         }
     }
@@ -192,17 +194,17 @@ impl Verdict {
 impl Refusal {
     /// The refusals with their numbers and what they say.
     const TABLE: [(u8, Refusal, &'static str); 11] = [
-        (1, Refusal::Malformed, "the message is malformed"),
-        (2, Refusal::WrongHouse, "the house or the screen is wrong"),
-        (3, Refusal::LabelAhead, "the label names taps that this screen has not taken"),
-        (4, Refusal::Old, "the gossip is old"),
-        (5, Refusal::Crossed, "the gossip is crossed with an earlier one"),
-        (6, Refusal::ClaimsOurs, "the gossip claims taps that this screen has not taken"),
-        (7, Refusal::Spent, "the book may know no more taps"),
-        (8, Refusal::Gap, "the gossip lacks a tap"),
-        (9, Refusal::NoRoom, "the log has no room"),
-        (11, Refusal::Unsound, "the book is damaged"),
-        (12, Refusal::ShortOutput, "the output is too short"),
+        (REFUSED_MALFORMED, Refusal::Malformed, "the message is malformed"),
+        (REFUSED_WRONG_HOUSE, Refusal::WrongHouse, "the house or the screen is wrong"),
+        (REFUSED_LABEL_AHEAD, Refusal::LabelAhead, "the label names taps that this screen has not taken"),
+        (REFUSED_OLD, Refusal::Old, "the gossip is old"),
+        (REFUSED_CROSSED, Refusal::Crossed, "the gossip is crossed with an earlier one"),
+        (REFUSED_CLAIMS_OURS, Refusal::ClaimsOurs, "the gossip claims taps that this screen has not taken"),
+        (REFUSED_SPENT, Refusal::Spent, "the book may know no more taps"),
+        (REFUSED_GAP, Refusal::Gap, "the gossip lacks a tap"),
+        (REFUSED_NO_ROOM, Refusal::NoRoom, "the log has no room"),
+        (REFUSED_UNSOUND, Refusal::Unsound, "the book is damaged"),
+        (REFUSED_SHORT_OUTPUT, Refusal::ShortOutput, "the output is too short"),
     ];
 
     /// The refusal's number.

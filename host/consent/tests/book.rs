@@ -1,5 +1,6 @@
 //! The wrapper over the proved library: the practice car of document 01, and how bytes and values correspond.
 
+use consent::numbers::*;
 use consent::{
     lent, Answer, Book, Gossip, GossipTaken, Question, QuestionAnswer, Refusal, Reply, Request, Stamp,
     Standing, Tap, TapAnswer, Verdict,
@@ -9,7 +10,9 @@ const TAP_A: Tap = Tap { front_end: 5, serial: 1, prompt: 7, showing: 1, answer:
 const TAP_B: Tap = Tap { serial: 2, answer: Answer::Decline, ..TAP_A };
 
 fn stamp(a: u32, b: u32, c: u32) -> Stamp {
-    Stamp([a, b, c, 0, 0, 0, 0, 0])
+    let mut stamp = Stamp::ZERO;
+    stamp.0[..3].copy_from_slice(&[a, b, c]);
+    stamp
 }
 
 fn at(label: Stamp) -> Question {
@@ -26,9 +29,9 @@ fn after_b() -> Book {
 
 #[test]
 fn a_house_is_judged() {
-    assert_eq!(Book::open(0, 1).unwrap_err(), Refusal::WrongHouse);
+    assert_eq!(Book::open(0, LEAST_SCREENS as u8 - 1).unwrap_err(), Refusal::WrongHouse);
     assert_eq!(Book::open(3, 3).unwrap_err(), Refusal::WrongHouse);
-    assert_eq!(Book::open(0, 9).unwrap_err(), Refusal::WrongHouse);
+    assert_eq!(Book::open(0, MOST_SCREENS as u8 + 1).unwrap_err(), Refusal::WrongHouse);
 }
 
 #[test]
@@ -40,7 +43,7 @@ fn taps_and_questions() {
     assert_eq!(book.tap(&TAP_A, Stamp::ZERO), Ok(TapAnswer::Already(stamp(2, 0, 0))));
     assert_eq!(book.question(&at(stamp(3, 0, 0))), Err(Refusal::LabelAhead));
     assert_eq!(book.question(&at(stamp(0, 4, 1))), Ok(QuestionAnswer::Wait(0x06)));
-    assert_eq!(book.tap(&Tap { prompt: 64, ..TAP_A }, Stamp::ZERO), Err(Refusal::Malformed));
+    assert_eq!(book.tap(&Tap { prompt: PROMPTS as u8, ..TAP_A }, Stamp::ZERO), Err(Refusal::Malformed));
 }
 
 #[test]
@@ -51,7 +54,7 @@ fn gossip() {
     assert_eq!(one.gossip(&message), Err(Refusal::Old));
     assert_eq!(zero.gossip(&message), Err(Refusal::WrongHouse));
     assert_eq!(one.gossip(&message[..50]), Err(Refusal::Malformed));
-    assert_eq!(one.gossip(&[12]), Err(Refusal::Malformed));
+    assert_eq!(one.gossip(&[KIND_SEND]), Err(Refusal::Malformed));
     assert_eq!(one.gossip(&[]), Err(Refusal::Malformed));
     let tap = Request::Tap(TAP_A, Stamp::ZERO).encode();
     assert_eq!(one.gossip(&tap), Err(Refusal::Malformed));
@@ -76,7 +79,7 @@ fn contents_are_shown() {
 #[test]
 fn a_damaged_book_is_refused() {
     let mut words = after_b().words().to_vec();
-    words[68] += 1;
+    words[AT_VALUE] += 1;
     let mut book = Book::from_words(words.clone());
     assert_eq!(book.tap(&TAP_A, Stamp::ZERO), Err(Refusal::Unsound));
     assert_eq!(book.send(), Err(Refusal::Unsound));
@@ -106,30 +109,42 @@ fn room_is_judged_by_the_very_reply() {
     let news = after_b().send().unwrap();
     let tap_c = Tap { serial: 3, ..TAP_A };
     let standing = Standing { verdict: Verdict::Contested, showing: 1, accepts: 1, declines: 1 };
-    assert_eq!(just_in(33, &zero, Request::Tap(tap_c, Stamp::ZERO)), Reply::Taken(stamp(3, 0, 0)));
-    assert_eq!(just_in(33, &zero, Request::Tap(TAP_A, Stamp::ZERO)), Reply::Already(stamp(2, 0, 0)));
+    assert_eq!(just_in(TAKEN_BYTES, &zero, Request::Tap(tap_c, Stamp::ZERO)), Reply::Taken(stamp(3, 0, 0)));
     assert_eq!(
-        just_in(44, &zero, Request::Question(at(Stamp::ZERO))),
+        just_in(ALREADY_BYTES, &zero, Request::Tap(TAP_A, Stamp::ZERO)),
+        Reply::Already(stamp(2, 0, 0))
+    );
+    assert_eq!(
+        just_in(VERDICT_BYTES, &zero, Request::Question(at(Stamp::ZERO))),
         Reply::Verdict(standing, stamp(2, 0, 0))
     );
-    assert_eq!(just_in(2, &zero, Request::Question(at(stamp(0, 1, 0)))), Reply::Wait(0x02));
-    assert_eq!(just_in(5, &one, Request::Gossip(&news)), Reply::GossipTaken { new: 2, applied: 2 });
-    assert_eq!(just_in(37, &one, Request::Send), Reply::Gossip(one.clone().send().unwrap()));
-    assert_eq!(just_in(37 + 2 * 47, &zero, Request::Send), Reply::Gossip(news));
+    assert_eq!(just_in(WAIT_BYTES, &zero, Request::Question(at(stamp(0, 1, 0)))), Reply::Wait(0x02));
+    assert_eq!(
+        just_in(GOSSIP_TAKEN_BYTES, &one, Request::Gossip(&news)),
+        Reply::GossipTaken { new: 2, applied: 2 }
+    );
+    assert_eq!(just_in(HEAD_BYTES, &one, Request::Send), Reply::Gossip(one.clone().send().unwrap()));
+    assert_eq!(just_in(HEAD_BYTES + 2 * RECORD_BYTES, &zero, Request::Send), Reply::Gossip(news));
 }
 
 #[test]
-fn two_bytes_hold_every_refusal() {
+fn the_room_of_a_refusal_holds_each() {
     let book = after_b();
     let news = after_b().send().unwrap();
     let damaged = Book::from_words(vec![0; book.words().len()]);
     let ahead = Request::Tap(TAP_A, stamp(3, 0, 0));
-    assert_eq!(just_in(2, &book, ahead), Reply::Refused(Refusal::LabelAhead));
-    assert_eq!(just_in(2, &book, Request::Question(at(stamp(3, 0, 0)))), Reply::Refused(Refusal::LabelAhead));
-    assert_eq!(just_in(2, &book, Request::Gossip(&news)), Reply::Refused(Refusal::WrongHouse));
-    assert_eq!(just_in(2, &book, Request::Gossip(&news[..36])), Reply::Refused(Refusal::Malformed));
+    assert_eq!(just_in(REFUSAL_BYTES, &book, ahead), Reply::Refused(Refusal::LabelAhead));
+    assert_eq!(
+        just_in(REFUSAL_BYTES, &book, Request::Question(at(stamp(3, 0, 0)))),
+        Reply::Refused(Refusal::LabelAhead)
+    );
+    assert_eq!(just_in(REFUSAL_BYTES, &book, Request::Gossip(&news)), Reply::Refused(Refusal::WrongHouse));
+    assert_eq!(
+        just_in(REFUSAL_BYTES, &book, Request::Gossip(&news[..HEAD_BYTES - 1])),
+        Reply::Refused(Refusal::Malformed)
+    );
     for request in [ahead, Request::Question(at(Stamp::ZERO)), Request::Gossip(&news), Request::Send] {
-        assert_eq!(just_in(2, &damaged, request), Reply::Refused(Refusal::Unsound));
+        assert_eq!(just_in(REFUSAL_BYTES, &damaged, request), Reply::Refused(Refusal::Unsound));
     }
 }
 
@@ -145,7 +160,7 @@ fn every_request_has_one_writing() {
     for request in requests {
         assert_eq!(Request::decode(&request.encode()), Some(request));
     }
-    assert_eq!(Request::decode(&[12, 0]), None);
+    assert_eq!(Request::decode(&[KIND_SEND, 0]), None);
     assert_eq!(Request::decode(&[]), None);
 }
 
@@ -165,12 +180,13 @@ fn every_reply_has_one_writing() {
     for reply in replies {
         assert_eq!(Reply::decode(&reply.encode()), Some(reply));
     }
-    assert_eq!(Reply::decode(&[9, 10]), None);
+    assert_eq!(Reply::decode(&[KIND_REFUSAL, REFUSED_NO_ROOM + 1]), None);
 }
 
 #[test]
 fn replies_are_judged_as_the_library_judges_them() {
-    for (kind, length) in (2..=20).flat_map(|kind| (0..=50).map(move |length| (kind, length))) {
+    let lengths = |kind| (0..=SHORT_REPLY + 5).map(move |length| (kind, length));
+    for (kind, length) in (KIND_RECORD..=20).flat_map(lengths) {
         for filling in [0, 1, 3, 4, 9, 10, 11, 12, 13, 255] {
             let mut bytes = vec![filling; length];
             bytes.insert(0, kind);

@@ -1,8 +1,9 @@
 //! Messages as bytes, from values that may break every field rule.
 
+use crate::numbers::kind;
 use crate::view::Stamp;
 
-pub const SEND: [u8; 1] = [12];
+pub const SEND: [u8; 1] = [kind::SEND];
 
 /// A tap's fields, in range or not.
 #[derive(Clone, Copy)]
@@ -24,24 +25,24 @@ pub struct Record {
 }
 
 pub fn tap(tap: &Tap, label: &Stamp) -> Vec<u8> {
-    let mut bytes = vec![3];
+    let mut bytes = vec![kind::TAP];
     put_tap(&mut bytes, tap);
     put_stamp(&mut bytes, label);
     bytes
 }
 
 pub fn question(prompt: u8, label: &Stamp) -> Vec<u8> {
-    let mut bytes = vec![4, prompt];
+    let mut bytes = vec![kind::QUESTION, prompt];
     put_stamp(&mut bytes, label);
     bytes
 }
 
 pub fn gossip(sender: u8, screens: u8, m: &Stamp, records: &[Record]) -> Vec<u8> {
-    let mut bytes = vec![1, sender, screens];
+    let mut bytes = vec![kind::GOSSIP, sender, screens];
     bytes.extend((records.len() as u16).to_be_bytes());
     put_stamp(&mut bytes, m);
     for record in records {
-        bytes.extend([2, record.origin]);
+        bytes.extend([kind::RECORD, record.origin]);
         bytes.extend(record.number.to_be_bytes());
         put_stamp(&mut bytes, &record.label);
         put_tap(&mut bytes, &record.tap);

@@ -3,6 +3,7 @@
 
 use crate::bytes;
 use crate::forge::{self, Variety};
+use crate::numbers::{at, MOST_SCREENS, PARTS, PROMPT_WORDS, RECORD_WORDS};
 use crate::pair::{Books, Pair, UNSOUND};
 use crate::random::Random;
 use crate::rooms;
@@ -33,13 +34,13 @@ pub fn some_words(pair: &mut Pair, random: &mut Random, sound: &Books, count: us
 /// Lends books that are too short and too long.
 pub fn lengths(pair: &mut Pair, random: &mut Random, sound: &Books) -> Result<(), String> {
     let words = sound.right.len();
-    for length in [0, 1, 4, words / 2, words - 1, words + 1, 2 * words] {
+    for length in [0, 1, at::TABLE, words / 2, words - 1, words + 1, 2 * words] {
         let mut lent = sound.right.clone();
         lent.resize(length, 0);
         let mut books = Books::new(lent);
         ask(pair, random, &mut books, View(&sound.right))?;
         pair.open(&mut books, 0, 2)?;
-        pair.open(&mut books, 9, 9)?;
+        pair.open(&mut books, MOST_SCREENS as u64 + 1, MOST_SCREENS as u64 + 1)?;
     }
     Ok(())
 }
@@ -67,7 +68,7 @@ fn damaged(random: &mut Random, way: usize, sound: &Books, at: usize) -> u64 {
         1 => word.wrapping_sub(1),
         2 => word ^ 1 << random.below(64),
         3 => random.pick(&[0, u64::MAX, 1 << 32, word | 1 << 32]),
-        _ => sound.right[(at + random.pick(&[1, 3, 8, 11])) % sound.right.len()],
+        _ => sound.right[(at + random.pick(&[1, PROMPT_WORDS, PARTS, RECORD_WORDS])) % sound.right.len()],
     }
 }
 

@@ -1,8 +1,13 @@
 //! Requests that a person, a front end or another screen might make, near the edges of a given book.
 
 use crate::bytes::{self, Record, Tap};
+use crate::numbers::{
+    ACCEPT, DECLINE, KNOWN_ROOM, LOG_ROOM, MOST_SCREENS, MOST_SHOWING, NUMBERED, PARTS, PROMPTS,
+};
 use crate::random::Random;
-use crate::view::{Stamp, View, KNOWN_ROOM, LOG_ROOM, PARTS};
+use crate::view::{Stamp, View};
+
+const LAST_PROMPT: u8 = PROMPTS as u8 - 1;
 
 /// How many different taps a house sees: few make repeats and contests, many fill books.
 #[derive(Clone, Copy, PartialEq, Eq)]
@@ -16,13 +21,13 @@ pub fn tap(random: &mut Random, variety: Variety) -> Tap {
     let mut tap = Tap {
         front_end: random.pick(&[0, 1, 1, 2, 255]),
         serial: random.below(6) as u32,
-        prompt: random.pick(&[0, 7, 7, 7, 63]),
-        showing: random.pick(&[1, 1, 1, 2, 2, 3, 65535]),
-        answer: random.pick(&[1, 1, 2]),
+        prompt: random.pick(&[0, 7, 7, 7, LAST_PROMPT]),
+        showing: random.pick(&[1, 1, 1, 2, 2, 3, MOST_SHOWING]),
+        answer: random.pick(&[ACCEPT, ACCEPT, DECLINE]),
     };
     if variety == Variety::Many {
         tap.serial = random.word() as u32;
-        tap.prompt = random.below(64) as u8;
+        tap.prompt = random.below(PROMPTS) as u8;
     }
     if random.once_in(60) {
         spoil_tap(random, &mut tap);
@@ -54,7 +59,7 @@ pub fn label(random: &mut Random, view: View) -> Stamp {
 /// A question, nearly always well formed.
 pub fn question(random: &mut Random, view: View) -> Vec<u8> {
     let prompt =
-        if random.once_in(50) { 64 + random.below(192) as u8 } else { random.pick(&[0, 7, 7, 63, 20]) };
+        if random.once_in(50) { no_prompt(random) } else { random.pick(&[0, 7, 7, LAST_PROMPT, 20]) };
     bytes::question(prompt, &label(random, view))
 }
 
@@ -66,7 +71,7 @@ pub fn gossip(random: &mut Random, view: View, variety: Variety) -> Vec<u8> {
     let m = stamp(random, view, sender);
     let mut records = records(random, view, &m, variety);
     spoil_records(random, &mut records);
-    let house = if random.once_in(40) { random.below(10) } else { screens };
+    let house = if random.once_in(40) { random.below(MOST_SCREENS + 2) } else { screens };
     bytes::gossip(sender as u8, house as u8, &m, &records)
 }
 
@@ -99,7 +104,7 @@ pub fn damage(random: &mut Random, message: &mut Vec<u8>) {
     match random.below(6) {
         0 => message.truncate(at),
         1 => message.push(random.word() as u8),
-        2 if !message.is_empty() => message[0] = random.below(16) as u8,
+        2 if !message.is_empty() => message[0] = random.below(NUMBERED) as u8,
         3 if !message.is_empty() => message[at] ^= 1 << random.below(8),
         4 if !message.is_empty() => message[at] = random.pick(&[0, 1, 255]),
         _ => message.extend_from_within(..at),
@@ -182,7 +187,7 @@ fn spoil_records(random: &mut Random, records: &mut Vec<Record>) {
         2 => records.swap(at, 0),
         3 if records.len() < LOG_ROOM => records.insert(at, records[at]),
         4 => records[at].number = random.pick(&[0, u32::MAX, 1 << 31]),
-        5 => records[at].origin = random.below(10) as u8,
+        5 => records[at].origin = random.below(MOST_SCREENS + 2) as u8,
         _ => spoil_tap(random, &mut records[at].tap),
     }
 }
@@ -197,10 +202,15 @@ fn tap_in_range(random: &mut Random, variety: Variety) -> Tap {
 
 fn spoil_tap(random: &mut Random, tap: &mut Tap) {
     match random.below(3) {
-        0 => tap.prompt = 64 + random.below(192) as u8,
+        0 => tap.prompt = no_prompt(random),
         1 => tap.showing = 0,
         _ => tap.answer = random.pick(&[0, 3, 4, 5, 255]),
     }
+}
+
+/// A number past the last prompt.
+fn no_prompt(random: &mut Random) -> u8 {
+    LAST_PROMPT + 1 + random.below(usize::from(u8::MAX - LAST_PROMPT)) as u8
 }
 
 /// A stamp at or below the given one.

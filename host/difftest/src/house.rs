@@ -2,10 +2,11 @@
 
 use crate::bytes;
 use crate::forge::{self, Variety};
+use crate::numbers::{kind, ACCEPT, DECLINE, KNOWN_ROOM, LEAST_SCREENS, LOG_ROOM, MOST_SCREENS};
 use crate::pair::{Books, Pair, UNSOUND};
 use crate::random::Random;
 use crate::rooms;
-use crate::view::{View, KNOWN_ROOM, LOG_ROOM};
+use crate::view::View;
 
 /// How many sent messages are on their way at most; a new one then pushes an old one out, which is lost.
 const MAIL_ROOM: usize = 24;
@@ -21,15 +22,17 @@ pub struct House {
 }
 
 impl House {
-    /// A fresh house of 2 to 8 screens, opened over whatever words were there.
+    /// A fresh house, opened over whatever words were there. Small ones are twice as likely.
     pub fn open(pair: &mut Pair, random: &mut Random) -> Result<House, String> {
-        let screens = random.pick(&[2, 2, 3, 3, 4, 5, 6, 7, 8]);
+        let small = [LEAST_SCREENS, LEAST_SCREENS, LEAST_SCREENS + 1];
+        let sizes: Vec<usize> = small.into_iter().chain(LEAST_SCREENS + 1..=MOST_SCREENS).collect();
+        let screens = random.pick(&sizes) as u64;
         let words = pair.book_words()?;
         let mut books = Vec::new();
         for screen in 0..screens {
             let filling = random.word();
             let mut book = Books::new(vec![filling; words]);
-            pair.open(&mut book, screen, random.pick(&[0, 1, 9, screen]))?;
+            pair.open(&mut book, screen, random.pick(&[0, 1, MOST_SCREENS as u64 + 1, screen]))?;
             pair.open(&mut book, screen, screens)?;
             books.push(book);
         }
@@ -73,14 +76,14 @@ impl House {
             forge::damage(random, &mut message);
         }
         let books = &mut self.books[screen];
-        if message.first() == Some(&4) || random.once_in(10) {
+        if message.first() == Some(&kind::QUESTION) || random.once_in(10) {
             pair.permission(books, &message)?;
         }
         let reply = rooms::answer(pair, random, books, &message)?;
         if reply == UNSOUND {
             return Err(format!("the book of screen {screen} became unsound"));
         }
-        if reply.first() == Some(&1) {
+        if reply.first() == Some(&kind::GOSSIP) {
             self.post(random, reply);
         }
         Ok(())
@@ -112,7 +115,7 @@ impl House {
     fn tap(&mut self, random: &mut Random) -> bytes::Tap {
         let tap = match (random.below(8), self.taps.last()) {
             (0, Some(&last)) => last,
-            (1, Some(&last)) => bytes::Tap { answer: last.answer ^ 3, ..last },
+            (1, Some(&last)) => bytes::Tap { answer: last.answer ^ ACCEPT ^ DECLINE, ..last },
             (2, Some(_)) => self.taps[random.below(self.taps.len())],
             _ => forge::tap(random, self.variety),
         };

@@ -17,6 +17,7 @@ mod damage;
 mod engine;
 mod forge;
 mod house;
+mod numbers;
 mod pair;
 mod random;
 mod replies;

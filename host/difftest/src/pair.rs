@@ -4,15 +4,13 @@ use std::fmt;
 
 use crate::bytes::hex;
 use crate::engine::Engine;
+use crate::numbers::{kind, refused, NUMBERED};
 
 /// What stands in a reply's buffer before an answer: both sides must leave the same bytes past the reply.
 const UNTOUCHED: u8 = 0xa5;
 
-/// The byte of kind of gossip.
-const GOSSIP: u8 = 1;
-
 /// The refusal of a book that is unsound or of wrong length.
-pub const UNSOUND: [u8; 2] = [9, 11];
+pub const UNSOUND: [u8; 2] = [kind::REFUSAL, refused::UNSOUND];
 
 /// Two engines, the left one under test and the right one the second opinion, and what they were asked so far.
 pub struct Pair<'a> {
@@ -20,12 +18,12 @@ pub struct Pair<'a> {
     right: &'a dyn Engine,
     pub messages: usize,
     /// How often each reply was given, by its byte of kind; refusals by their number in `refused`.
-    pub replied: [usize; 16],
-    pub refused: [usize; 16],
+    pub replied: [usize; NUMBERED],
+    pub refused: [usize; NUMBERED],
     /// How often a reply of each kind had too little room, by its byte of kind.
-    pub left_out: [usize; 16],
+    pub left_out: [usize; NUMBERED],
     /// How often a request of each kind was answered in less room than its longest reply takes.
-    pub tight: [usize; 16],
+    pub tight: [usize; NUMBERED],
 }
 
 /// One screen's book on both sides.
@@ -72,7 +70,7 @@ impl Books {
 
 impl<'a> Pair<'a> {
     pub fn new(left: &'a dyn Engine, right: &'a dyn Engine) -> Pair<'a> {
-        let none = [0; 16];
+        let none = [0; NUMBERED];
         Pair { left, right, messages: 0, replied: none, refused: none, left_out: none, tight: none }
     }
 
@@ -134,7 +132,7 @@ impl<'a> Pair<'a> {
 
     /// A reply that was given is read as one of its kind. Gossip is none of these.
     fn read(&self, reply: &[u8]) -> Result<(), String> {
-        let kind = reply.first().copied().filter(|&kind| kind != GOSSIP).unwrap_or(0);
+        let kind = reply.first().copied().filter(|&kind| kind != kind::GOSSIP).unwrap_or(0);
         let read = self.reply_kind(reply)?;
         same(read, kind).map_err(|what| format!("reply {} is read as another: {what}", hex(reply)))
     }
@@ -142,20 +140,25 @@ impl<'a> Pair<'a> {
     /// Counts a request that was asked in that room, and whose very reply is known.
     pub fn note_room(&mut self, message: &[u8], very: &[u8], room: usize) {
         if room < very.len() {
-            self.left_out[usize::from(very[0] & 15)] += 1;
+            self.left_out[row(very[0])] += 1;
         } else if room < self.left.reply_room(message) {
-            self.tight[usize::from(message[0] & 15)] += 1;
+            self.tight[row(message[0])] += 1;
         }
     }
 
     fn note(&mut self, reply: &[u8]) {
         self.messages += 1;
         match *reply {
-            [9, number] => self.refused[usize::from(number & 15)] += 1,
-            [kind, ..] => self.replied[usize::from(kind & 15)] += 1,
-            [] => self.refused[12] += 1,
+            [kind::REFUSAL, number] => self.refused[row(number)] += 1,
+            [kind, ..] => self.replied[row(kind)] += 1,
+            [] => self.refused[row(refused::SHORT_OUTPUT)] += 1,
         }
     }
+}
+
+/// Where a kind or a refusal is counted.
+fn row(number: u8) -> usize {
+    usize::from(number) % NUMBERED
 }
 
 /// What is past the reply stays.

@@ -3,6 +3,7 @@
 use crate::damage;
 use crate::engine::Engine;
 use crate::house::House;
+use crate::numbers::NUMBERED;
 use crate::pair::{Difference, Pair};
 use crate::random::Random;
 use crate::replies;
@@ -26,13 +27,13 @@ pub struct Report {
     pub messages: usize,
     pub houses: usize,
     /// How often each kind of reply was given; refusals are counted in `refused` alone.
-    pub replied: [usize; 16],
+    pub replied: [usize; NUMBERED],
     /// How often each refusal was given, by its number.
-    pub refused: [usize; 16],
+    pub refused: [usize; NUMBERED],
     /// How often each kind of reply had too little room.
-    pub left_out: [usize; 16],
+    pub left_out: [usize; NUMBERED],
     /// How often each kind of request was answered in less room than its longest reply takes.
-    pub tight: [usize; 16],
+    pub tight: [usize; NUMBERED],
 }
 
 impl Default for Plan {

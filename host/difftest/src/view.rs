@@ -1,12 +1,7 @@
 //! What the generator looks up in a sound book, to ask what lies near its edges. It reads the documented layout
 //! itself, so that it leans on neither engine.
 
-pub const PARTS: usize = 8;
-pub const LOG_ROOM: usize = 256;
-pub const KNOWN_ROOM: usize = 1024;
-
-const TABLE: usize = 4;
-const VALUE: usize = 68;
+use crate::numbers::{at, PARTS};
 
 pub type Stamp = [u32; PARTS];
 
@@ -16,15 +11,15 @@ pub struct View<'a>(pub &'a [u64]);
 
 impl View<'_> {
     pub fn screen(self) -> usize {
-        self.0[0] as usize
+        self.0[at::SCREEN] as usize
     }
 
     pub fn screens(self) -> usize {
-        self.0[1] as usize
+        self.0[at::SCREENS] as usize
     }
 
     pub fn logged(self) -> usize {
-        self.0[2] as usize
+        self.0[at::LOGGED] as usize
     }
 
     pub fn known(self) -> Stamp {
@@ -32,11 +27,11 @@ impl View<'_> {
     }
 
     pub fn row(self, screen: usize) -> Stamp {
-        self.stamp(TABLE + PARTS * screen)
+        self.stamp(at::TABLE + PARTS * screen)
     }
 
     pub fn value(self) -> Stamp {
-        self.stamp(VALUE)
+        self.stamp(at::VALUE)
     }
 
     /// How many records the book knows in all.

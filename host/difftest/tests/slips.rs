@@ -22,6 +22,9 @@ macro_rules! slip {
 
 include!(concat!(env!("OUT_DIR"), "/slips.rs"));
 
+/// So many slips were tried when this was written.
+const LEAST_SLIPS: usize = 36;
+
 /// The slips about room for a reply.
 const OF_ROOM: [&str; 5] = [
     "room_for_longest",
@@ -30,6 +33,13 @@ const OF_ROOM: [&str; 5] = [
     "short_output_said",
     "short_send_writes",
 ];
+
+/// A slip is another body for the function that is its rule: if that is gone, the slip is not tried, and this says so.
+#[test]
+fn every_slip_applies() {
+    assert!(STALE.is_empty(), "these slips break a rule that is not to be found: {STALE:#?}");
+    assert!(SLIPS.len() >= LEAST_SLIPS, "only {} slips", SLIPS.len());
+}
 
 #[test]
 fn every_slip_is_found() {

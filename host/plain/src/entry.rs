@@ -1,9 +1,7 @@
 //! The six functions over lent words and bytes that the proved library exports too.
 
-use super::message::{kind, HEAD_BYTES, RECORD_BYTES};
-use super::{Book, Refusal, Reply, Request, TapAnswer, LOG_ROOM, WORDS};
-
-const REFUSAL_BYTES: usize = 2;
+use super::wire::{kind, reply_bytes, LONGEST_GOSSIP};
+use super::{Book, Refusal, Reply, Request, TapAnswer, WORDS};
 
 /// The length of a lent book, in words.
 pub fn book_words() -> usize {
@@ -24,7 +22,7 @@ pub fn open(words: &mut [u64], screen: u64, screens: u64) -> u64 {
     }
 }
 
-/// Answers one whole message of kind 1, 3, 4 or 12; the reply's length, or 0, with nothing changed, when the very reply
+/// Answers one whole tap, question, gossip or send; the reply's length, or 0, with nothing changed, when the very reply
 /// does not fit.
 pub fn answer(words: &mut [u64], message: &[u8], reply: &mut [u8]) -> usize {
     answer_fitting(words, message, reply).unwrap_or(0)
@@ -32,11 +30,8 @@ pub fn answer(words: &mut [u64], message: &[u8], reply: &mut [u8]) -> usize {
 
 /// Yes or no for a question; anything else is a no.
 pub fn permission(words: &[u64], message: &[u8]) -> bool {
-    let Some(book) = Book::from_words(words) else {
-        return false;
-    };
-    match Request::parse(message, book.screens()) {
-        Some(Request::Question { prompt, label }) => book.permission(prompt, label),
+    match judged(words, message) {
+        Ok((book, Request::Question { prompt, label })) => book.permission(prompt, label),
         _ => false,
     }
 }
@@ -44,27 +39,31 @@ pub fn permission(words: &[u64], message: &[u8]) -> bool {
 /// The greatest length of the reply to a request, by its byte of kind.
 pub fn reply_room(message: &[u8]) -> usize {
     match message.first() {
-        Some(&kind::GOSSIP) => 5,
-        Some(&kind::TAP) => 33,
-        Some(&kind::QUESTION) => 44,
-        Some(&kind::SEND) => HEAD_BYTES + LOG_ROOM * RECORD_BYTES,
-        _ => REFUSAL_BYTES,
+        Some(&kind::GOSSIP) => reply_bytes(kind::GOSSIP_TAKEN),
+        Some(&kind::TAP) => reply_bytes(kind::TAKEN),
+        Some(&kind::QUESTION) => reply_bytes(kind::VERDICT),
+        Some(&kind::SEND) => LONGEST_GOSSIP,
+        _ => reply_bytes(kind::REFUSAL),
     }
 }
 
-/// Which reply the bytes are, 5 to 10; 0 when they are none that obeys its field rules.
+/// Which reply the bytes are, by its kind; 0 when they are none that obeys its field rules.
 pub fn reply_kind(bytes: &[u8]) -> u8 {
     Reply::parse(bytes).map_or(0, |reply| reply.kind())
 }
 
-/// Works the request out on a copy of the book, and keeps the copy only when its reply fits: the one error is
-/// [`Refusal::ShortOutput`].
+/// The book and the request, if the one is sound and the other well formed: 11 comes before 1.
+fn judged<'a>(words: &[u64], message: &'a [u8]) -> Result<(Book, Request<'a>), Refusal> {
+    let book = Book::from_words(words).ok_or(Refusal::Unsound)?;
+    let request = Request::parse(message, book.screens()).ok_or(Refusal::Malformed)?;
+    Ok((book, request))
+}
+
+/// Works the request out on a copy of the book: the one error is [`Refusal::ShortOutput`].
 fn answer_fitting(words: &mut [u64], message: &[u8], reply: &mut [u8]) -> Result<usize, Refusal> {
-    let Some(mut book) = Book::from_words(words) else {
-        return Reply::Refused(Refusal::Unsound).write(reply);
-    };
-    let Some(request) = Request::parse(message, book.screens()) else {
-        return Reply::Refused(Refusal::Malformed).write(reply);
+    let (mut book, request) = match judged(words, message) {
+        Ok(judged) => judged,
+        Err(refusal) => return Reply::Refused(refusal).write(reply),
     };
     let answer = match request {
         Request::Send => return book.send(reply),
@@ -74,9 +73,13 @@ fn answer_fitting(words: &mut [u64], message: &[u8], reply: &mut [u8]) -> Result
             book.gossip(&gossip).map(|(new, applied)| Reply::GossipTaken { new, applied })
         }
     };
-    let answer = answer.unwrap_or_else(Reply::Refused);
+    conclude(&answer.unwrap_or_else(Reply::Refused), &book, words, reply)
+}
+
+/// Says the answer if it fits, and only then keeps the book that it leaves.
+fn conclude(answer: &Reply, book: &Book, words: &mut [u64], reply: &mut [u8]) -> Result<usize, Refusal> {
     let length = answer.write(reply)?;
-    if changes(&answer) {
+    if changes(answer) {
         book.store(words);
     }
     Ok(length)

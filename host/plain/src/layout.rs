@@ -1,24 +1,26 @@
 //! The book as lent words, and the test of lent words.
 //!
-//! | words | what |
-//! |---|---|
-//! | 0 .. 4 | screen i, screens N, number of log records, number of counted taps |
-//! | 4 .. 68 | the table: eight rows of eight parts |
-//! | 68 .. 76 | the value stamp |
-//! | 76 .. 2892 | the log: 256 places of origin, number, eight label parts, the tap's word |
-//! | 2892 .. 3916 | 1,024 counted taps |
-//! | 3916 .. 4108 | 64 prompts: showing, accepts, declines |
+//! In order: a head of four numbers (screen i, screens N, how many log records, how many counted taps); the table, a
+//! row of parts for each screen; the value stamp; the log's places, each origin, number, label and the tap's word; the
+//! counted taps; the prompts, each showing, accepts and declines.
 
-use super::book::{Prompt, KNOWN_ROOM, LOG_ROOM};
-use super::{Book, Record, Stamp, Tap, LEAST_SCREENS, MOST_SCREENS, PROMPTS};
+use super::{
+    Book, Prompt, Record, Stamp, Tap, KNOWN_ROOM, LEAST_SCREENS, LOG_ROOM, MOST_SCREENS, PARTS, PROMPTS,
+};
 
 const TABLE: usize = 4;
-const VALUE: usize = TABLE + MOST_SCREENS * MOST_SCREENS;
-const LOG: usize = VALUE + MOST_SCREENS;
-const LOG_WORDS: usize = 3 + MOST_SCREENS;
-const COUNTED: usize = LOG + LOG_ROOM * LOG_WORDS;
+const VALUE: usize = TABLE + MOST_SCREENS * PARTS;
+const LOG: usize = VALUE + PARTS;
+const COUNTED: usize = LOG + LOG_ROOM * RECORD_WORDS;
 const PROMPT: usize = COUNTED + KNOWN_ROOM;
 const PROMPT_WORDS: usize = 3;
+
+/// Within a place of the log.
+const ORIGIN: usize = 0;
+const NUMBER: usize = 1;
+const LABEL: usize = 2;
+const TAP: usize = LABEL + PARTS;
+const RECORD_WORDS: usize = TAP + 1;
 
 /// The length of a lent book.
 pub const WORDS: usize = PROMPT + PROMPTS * PROMPT_WORDS;
@@ -53,7 +55,7 @@ impl Book {
         assert_eq!(words.len(), WORDS, "a lent book has one length");
         let head = [self.screen, self.screens, self.log.len(), self.counted.len()];
         words[..TABLE].copy_from_slice(&head.map(|number| number as u64));
-        for (row, place) in self.table.iter().zip(words[TABLE..].chunks_exact_mut(MOST_SCREENS)) {
+        for (row, place) in self.table.iter().zip(words[TABLE..].chunks_exact_mut(PARTS)) {
             store_stamp(row, place);
         }
         store_stamp(&self.value, &mut words[VALUE..LOG]);
@@ -63,12 +65,12 @@ impl Book {
     }
 
     fn store_log(&self, words: &mut [u64]) {
-        let (used, free) = words.split_at_mut(self.log.len() * LOG_WORDS);
-        for (record, place) in self.log.iter().zip(used.chunks_exact_mut(LOG_WORDS)) {
-            place[0] = record.origin as u64;
-            place[1] = u64::from(record.number);
-            store_stamp(&record.label, &mut place[2..]);
-            place[2 + MOST_SCREENS] = record.tap.word();
+        let (used, free) = words.split_at_mut(self.log.len() * RECORD_WORDS);
+        for (record, place) in self.log.iter().zip(used.chunks_exact_mut(RECORD_WORDS)) {
+            place[ORIGIN] = record.origin as u64;
+            place[NUMBER] = u64::from(record.number);
+            store_stamp(&record.label, &mut place[LABEL..TAP]);
+            place[TAP] = record.tap.word();
         }
         free.fill(0);
     }
@@ -92,12 +94,15 @@ impl Book {
     /// records are within the limit.
     fn rows_are_known(&self) -> bool {
         let known = self.known();
-        let (rows, past) = self.table.split_at(self.screens);
-        rows.iter().all(|row| known.covers(row))
-            && past.iter().all(|row| *row == Stamp::ZERO)
+        self.table().iter().all(|row| known.covers(row))
+            && self.rows_past_are_zero()
             && known.fits(self.screens)
             && known.covers(&self.value)
             && known.sum() <= KNOWN_ROOM as u64
+    }
+
+    fn rows_past_are_zero(&self) -> bool {
+        self.table[self.screens..].iter().all(|row| *row == Stamp::ZERO)
     }
 
     /// Log records rise strictly, are known and obey the wire's field rules.
@@ -126,9 +131,14 @@ impl Book {
         let mut applied = self.log.iter().filter(|record| record.is_applied(self.known()));
         applied.all(|record| {
             !record.is_known(&everywhere)
-                && record.has_stamp_below(&self.value)
+                && self.value_covers(record)
                 && self.counted.binary_search(&record.tap).is_ok()
         })
+    }
+
+    /// Whether the value stamp covers the stamp of a log record.
+    fn value_covers(&self, record: &Record) -> bool {
+        record.has_stamp_below(&self.value)
     }
 
     /// Counted taps number at most the known records less the waiting ones; so, then, do each prompt's counts.
@@ -171,7 +181,7 @@ fn read(words: &[u64]) -> Option<Book> {
 
 fn read_table(words: &[u64]) -> Option<[Stamp; MOST_SCREENS]> {
     let mut table = [Stamp::ZERO; MOST_SCREENS];
-    for (row, place) in table.iter_mut().zip(words.chunks_exact(MOST_SCREENS)) {
+    for (row, place) in table.iter_mut().zip(words.chunks_exact(PARTS)) {
         *row = read_stamp(place)?;
     }
     Some(table)
@@ -179,13 +189,13 @@ fn read_table(words: &[u64]) -> Option<[Stamp; MOST_SCREENS]> {
 
 fn read_log(words: &[u64], count: u64) -> Option<Vec<Record>> {
     let count = usize::try_from(count).ok().filter(|&count| count <= LOG_ROOM)?;
-    let (used, free) = words.split_at(count * LOG_WORDS);
+    let (used, free) = words.split_at(count * RECORD_WORDS);
     if !all_zero(free) {
         return None;
     }
     // One place more than is used: a tap adds one.
     let mut log = Vec::with_capacity(count + 1);
-    for place in used.chunks_exact(LOG_WORDS) {
+    for place in used.chunks_exact(RECORD_WORDS) {
         log.push(read_record(place)?);
     }
     Some(log)
@@ -193,10 +203,10 @@ fn read_log(words: &[u64], count: u64) -> Option<Vec<Record>> {
 
 fn read_record(words: &[u64]) -> Option<Record> {
     Some(Record {
-        origin: usize::try_from(words[0]).ok()?,
-        number: u32::try_from(words[1]).ok()?,
-        label: read_stamp(&words[2..2 + MOST_SCREENS])?,
-        tap: Tap::from_word(words[2 + MOST_SCREENS])?,
+        origin: usize::try_from(words[ORIGIN]).ok()?,
+        number: u32::try_from(words[NUMBER]).ok()?,
+        label: read_stamp(&words[LABEL..TAP])?,
+        tap: Tap::from_word(words[TAP])?,
     })
 }
 

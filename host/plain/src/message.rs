@@ -1,31 +1,13 @@
 //! Messages read and written, with their field rules.
 
-use super::book::{Prompt, QuestionAnswer, TapAnswer, Verdict, LOG_ROOM};
-use super::{Book, Record, Refusal, Stamp, Tap, LEAST_SCREENS, MOST_SCREENS, PROMPTS};
-
-/// The length of a gossip message's head.
-pub const HEAD_BYTES: usize = 37;
-/// The length of one record of a gossip message.
-pub const RECORD_BYTES: usize = 47;
-
-const STAMP_BYTES: usize = 4 * MOST_SCREENS;
-const TAP_BYTES: usize = 9;
-const STANDING_BYTES: usize = 11;
-
-/// The byte of kind of each message.
-pub(super) mod kind {
-    pub const GOSSIP: u8 = 1;
-    pub const RECORD: u8 = 2;
-    pub const TAP: u8 = 3;
-    pub const QUESTION: u8 = 4;
-    pub const TAKEN: u8 = 5;
-    pub const ALREADY: u8 = 6;
-    pub const VERDICT: u8 = 7;
-    pub const WAIT: u8 = 8;
-    pub const REFUSAL: u8 = 9;
-    pub const GOSSIP_TAKEN: u8 = 10;
-    pub const SEND: u8 = 12;
-}
+use super::wire::{
+    head, kind, news, record, reply_body, reply_bytes, request_body, standing, tap, BITS_BYTES, HEAD_BYTES,
+    KIND_BYTES, PART_BYTES, RECORD_BYTES,
+};
+use super::{
+    Bits, Book, Prompt, QuestionAnswer, Record, Refusal, Stamp, Tap, TapAnswer, Verdict, LEAST_SCREENS,
+    LOG_ROOM, MOST_SCREENS, PROMPTS,
+};
 
 /// A request that a screen takes.
 #[derive(Clone, Copy, Debug)]
@@ -58,17 +40,19 @@ impl<'a> Request<'a> {
     /// The request that these bytes are, whole and obeying the field rules of a house of `screens`.
     pub fn parse(bytes: &'a [u8], screens: usize) -> Option<Request<'a>> {
         let (&kind, body) = bytes.split_first()?;
+        if kind == kind::GOSSIP {
+            return Gossip::parse(bytes).map(Request::Gossip);
+        }
+        if body.len() != request_body(kind)? {
+            return None;
+        }
         let request = match kind {
-            kind::GOSSIP => return Gossip::parse(bytes).map(Request::Gossip),
-            kind::SEND if body.is_empty() => return Some(Request::Send),
-            kind::TAP if body.len() == TAP_BYTES + STAMP_BYTES => {
-                let (tap, label) = body.split_at(TAP_BYTES);
+            kind::TAP => {
+                let (tap, label) = body.split_at(tap::END);
                 Request::Tap { tap: read_tap(tap)?, label: read_stamp(label) }
             }
-            kind::QUESTION if body.len() == 1 + STAMP_BYTES => {
-                Request::Question { prompt: body[0], label: read_stamp(&body[1..]) }
-            }
-            _ => return None,
+            kind::QUESTION => Request::Question { prompt: body[0], label: read_stamp(&body[1..]) },
+            _ => Request::Send,
         };
         request.obeys_rules(screens).then_some(request)
     }
@@ -90,12 +74,12 @@ impl<'a> Gossip<'a> {
         }
         let (head, records) = bytes.split_at(HEAD_BYTES);
         let gossip = Gossip {
-            sender: usize::from(head[1]),
-            screens: usize::from(head[2]),
-            stamp: read_stamp(&head[5..]),
+            sender: usize::from(head[head::SENDER]),
+            screens: usize::from(head[head::SCREENS]),
+            stamp: read_stamp(&head[head::STAMP..]),
             records,
         };
-        let count = usize::from(read_u16(&head[3..5]));
+        let count = usize::from(read_u16(&head[head::COUNT..]));
         let whole = count <= LOG_ROOM && records.len() == count * RECORD_BYTES;
         (whole && gossip.obeys_rules()).then_some(gossip)
     }
@@ -138,23 +122,26 @@ impl<'a> Gossip<'a> {
 impl Book {
     /// The length of the message that [`Book::send`] writes.
     pub fn send_bytes(&self) -> usize {
-        HEAD_BYTES + RECORD_BYTES * self.log.len()
+        HEAD_BYTES + RECORD_BYTES * self.log().len()
     }
 
     /// Writes the known stamp and the whole log as one gossip message; answers its length.
     pub fn send(&self, out: &mut [u8]) -> Result<usize, Refusal> {
-        let length = self.send_bytes();
-        let Some(out) = out.get_mut(..length) else {
-            return Err(Refusal::ShortOutput);
-        };
-        let (head, records) = out.split_at_mut(HEAD_BYTES);
-        head[..3].copy_from_slice(&[kind::GOSSIP, self.screen as u8, self.screens as u8]);
-        head[3..5].copy_from_slice(&(self.log.len() as u16).to_be_bytes());
-        write_stamp(self.known(), &mut head[5..]);
-        for (record, bytes) in self.log.iter().zip(records.chunks_exact_mut(RECORD_BYTES)) {
+        let message = out.get_mut(..self.send_bytes()).ok_or(Refusal::ShortOutput)?;
+        self.write_gossip(message);
+        Ok(message.len())
+    }
+
+    fn write_gossip(&self, message: &mut [u8]) {
+        let (head, records) = message.split_at_mut(HEAD_BYTES);
+        head[0] = kind::GOSSIP;
+        head[head::SENDER] = self.screen() as u8;
+        head[head::SCREENS] = self.screens() as u8;
+        put(head, head::COUNT, (self.log().len() as u16).to_be_bytes());
+        write_stamp(self.known(), &mut head[head::STAMP..]);
+        for (record, bytes) in self.log().iter().zip(records.chunks_exact_mut(RECORD_BYTES)) {
             write_record(record, bytes);
         }
-        Ok(length)
     }
 }
 
@@ -162,25 +149,20 @@ impl Reply {
     /// The reply that these bytes are, whole and obeying the field rules: all parts of its stamp are free.
     pub fn parse(bytes: &[u8]) -> Option<Reply> {
         let (&kind, body) = bytes.split_first()?;
-        let reply = match (kind, body) {
-            (kind::TAKEN, _) if body.len() == STAMP_BYTES => Reply::Tap(TapAnswer::Taken(read_stamp(body))),
-            (kind::ALREADY, _) if body.len() == STAMP_BYTES => {
-                Reply::Tap(TapAnswer::Already(read_stamp(body)))
-            }
-            (kind::VERDICT, &[verdict, ..]) if body.len() == STANDING_BYTES + STAMP_BYTES => {
-                let (standing, value) = body.split_at(STANDING_BYTES);
-                let prompt = read_prompt(&standing[1..]);
-                let verdict = Verdict::from_number(verdict)?;
-                Reply::Question(QuestionAnswer::Verdict { verdict, prompt, value: read_stamp(value) })
-            }
-            (kind::WAIT, &[lacking]) => Reply::Question(QuestionAnswer::Wait { lacking }),
-            (kind::REFUSAL, &[number]) => Reply::Refused(Refusal::from_number(number)?),
-            (kind::GOSSIP_TAKEN, [_, _, _, _]) => {
-                Reply::GossipTaken { new: read_u16(body), applied: read_u16(&body[2..]) }
-            }
-            _ => return None,
-        };
-        Some(reply)
+        if !has_body_of(kind, body) {
+            return None;
+        }
+        Some(match kind {
+            kind::TAKEN => Reply::Tap(TapAnswer::Taken(read_stamp(body))),
+            kind::ALREADY => Reply::Tap(TapAnswer::Already(read_stamp(body))),
+            kind::VERDICT => Reply::Question(read_verdict(body)?),
+            kind::WAIT => Reply::Question(QuestionAnswer::Wait { lacking: read_bits(body) }),
+            kind::REFUSAL => Reply::Refused(Refusal::from_number(body[0])?),
+            _ => Reply::GossipTaken {
+                new: read_u16(&body[news::NEW..]),
+                applied: read_u16(&body[news::APPLIED..]),
+            },
+        })
     }
 
     /// Its byte of kind.
@@ -197,34 +179,33 @@ impl Reply {
 
     /// Its length as a message.
     pub fn length(&self) -> usize {
-        let body = match self {
-            Reply::Tap(_) => STAMP_BYTES,
-            Reply::Question(QuestionAnswer::Verdict { .. }) => STANDING_BYTES + STAMP_BYTES,
-            Reply::Question(QuestionAnswer::Wait { .. }) | Reply::Refused(_) => 1,
-            Reply::GossipTaken { .. } => 4,
-        };
-        1 + body
+        reply_bytes(self.kind())
     }
 
     /// Writes the reply at the front of `out`; answers its length.
     pub fn write(&self, out: &mut [u8]) -> Result<usize, Refusal> {
         let out = out.get_mut(..self.length()).ok_or(Refusal::ShortOutput)?;
-        let (kind, body) = out.split_first_mut().expect("a reply has a byte of kind");
-        *kind = self.kind();
+        let (kind, body) = out.split_at_mut(KIND_BYTES);
+        kind[0] = self.kind();
         match self {
             Reply::Tap(TapAnswer::Taken(stamp) | TapAnswer::Already(stamp)) => write_stamp(stamp, body),
             Reply::Question(QuestionAnswer::Verdict { verdict, prompt, value }) => {
-                write_verdict(*verdict as u8, prompt, value, body)
+                write_verdict(*verdict, prompt, value, body)
             }
-            Reply::Question(QuestionAnswer::Wait { lacking }) => body[0] = *lacking,
+            Reply::Question(QuestionAnswer::Wait { lacking }) => write_bits(*lacking, body),
             Reply::Refused(refusal) => body[0] = refusal.number(),
             Reply::GossipTaken { new, applied } => {
-                body[..2].copy_from_slice(&new.to_be_bytes());
-                body[2..].copy_from_slice(&applied.to_be_bytes());
+                put(body, news::NEW, new.to_be_bytes());
+                put(body, news::APPLIED, applied.to_be_bytes());
             }
         }
         Ok(self.length())
     }
+}
+
+/// Whether a reply of that kind has a body of that length.
+fn has_body_of(kind: u8, body: &[u8]) -> bool {
+    reply_body(kind) == Some(body.len())
 }
 
 fn read_u16(bytes: &[u8]) -> u16 {
@@ -236,55 +217,81 @@ fn read_u32(bytes: &[u8]) -> u32 {
 }
 
 fn read_stamp(bytes: &[u8]) -> Stamp {
-    Stamp(std::array::from_fn(|k| read_u32(&bytes[4 * k..])))
+    Stamp(std::array::from_fn(|k| read_u32(&bytes[PART_BYTES * k..])))
 }
 
-fn read_prompt(bytes: &[u8]) -> Prompt {
-    Prompt { showing: read_u16(bytes), accepts: read_u32(&bytes[2..]), declines: read_u32(&bytes[6..]) }
+fn read_bits(bytes: &[u8]) -> Bits {
+    Bits::from_be_bytes(std::array::from_fn::<u8, BITS_BYTES, _>(|at| bytes[at]))
+}
+
+fn read_verdict(body: &[u8]) -> Option<QuestionAnswer> {
+    let prompt = Prompt {
+        showing: read_u16(&body[standing::SHOWING..]),
+        accepts: read_u32(&body[standing::ACCEPTS..]),
+        declines: read_u32(&body[standing::DECLINES..]),
+    };
+    let verdict = Verdict::from_number(body[standing::VERDICT])?;
+    Some(QuestionAnswer::Verdict { verdict, prompt, value: read_stamp(&body[standing::END..]) })
 }
 
 fn read_tap(bytes: &[u8]) -> Option<Tap> {
-    Tap::new(bytes[0], read_u32(&bytes[1..]), bytes[5], read_u16(&bytes[6..]), bytes[8])
+    Tap::new(
+        bytes[tap::FRONT_END],
+        read_u32(&bytes[tap::SERIAL..]),
+        bytes[tap::PROMPT],
+        read_u16(&bytes[tap::SHOWING..]),
+        bytes[tap::ANSWER],
+    )
 }
 
-/// The record of these 47 bytes, if its kind and its tap are right; the other rules need the head.
+/// The record of these bytes, if its kind and its tap are right; the other rules need the head.
 fn read_record(bytes: &[u8]) -> Option<Record> {
     if bytes[0] != kind::RECORD {
         return None;
     }
     Some(Record {
-        origin: usize::from(bytes[1]),
-        number: read_u32(&bytes[2..]),
-        label: read_stamp(&bytes[6..]),
-        tap: read_tap(&bytes[38..])?,
+        origin: usize::from(bytes[record::ORIGIN]),
+        number: read_u32(&bytes[record::NUMBER..]),
+        label: read_stamp(&bytes[record::LABEL..]),
+        tap: read_tap(&bytes[record::TAP..])?,
     })
 }
 
+/// Writes the bytes from that place on.
+fn put<const N: usize>(out: &mut [u8], at: usize, bytes: [u8; N]) {
+    out[at..at + N].copy_from_slice(&bytes);
+}
+
 fn write_stamp(stamp: &Stamp, out: &mut [u8]) {
-    for (part, bytes) in stamp.0.iter().zip(out.chunks_exact_mut(4)) {
+    for (part, bytes) in stamp.0.iter().zip(out.chunks_exact_mut(PART_BYTES)) {
         bytes.copy_from_slice(&part.to_be_bytes());
     }
 }
 
-fn write_verdict(verdict: u8, prompt: &Prompt, value: &Stamp, out: &mut [u8]) {
-    out[0] = verdict;
-    out[1..3].copy_from_slice(&prompt.showing.to_be_bytes());
-    out[3..7].copy_from_slice(&prompt.accepts.to_be_bytes());
-    out[7..STANDING_BYTES].copy_from_slice(&prompt.declines.to_be_bytes());
-    write_stamp(value, &mut out[STANDING_BYTES..]);
+fn write_bits(bits: Bits, out: &mut [u8]) {
+    put(out, 0, bits.to_be_bytes());
+}
+
+fn write_verdict(verdict: Verdict, prompt: &Prompt, value: &Stamp, out: &mut [u8]) {
+    out[standing::VERDICT] = verdict as u8;
+    put(out, standing::SHOWING, prompt.showing.to_be_bytes());
+    put(out, standing::ACCEPTS, prompt.accepts.to_be_bytes());
+    put(out, standing::DECLINES, prompt.declines.to_be_bytes());
+    write_stamp(value, &mut out[standing::END..]);
 }
 
 fn write_record(record: &Record, out: &mut [u8]) {
-    out[..2].copy_from_slice(&[kind::RECORD, record.origin as u8]);
-    out[2..6].copy_from_slice(&record.number.to_be_bytes());
-    write_stamp(&record.label, &mut out[6..38]);
-    write_tap(record.tap, &mut out[38..]);
+    out[0] = kind::RECORD;
+    out[record::ORIGIN] = record.origin as u8;
+    put(out, record::NUMBER, record.number.to_be_bytes());
+    write_stamp(&record.label, &mut out[record::LABEL..record::TAP]);
+    write_tap(record.tap, &mut out[record::TAP..]);
 }
 
 fn write_tap(tap: Tap, out: &mut [u8]) {
-    out[0] = tap.front_end();
-    out[1..5].copy_from_slice(&tap.serial().to_be_bytes());
-    out[5] = tap.prompt();
-    out[6..8].copy_from_slice(&tap.showing().to_be_bytes());
-    out[8] = tap.answer();
+    out[tap::FRONT_END] = tap.front_end();
+    put(out, tap::SERIAL, tap.serial().to_be_bytes());
+    out[tap::PROMPT] = tap.prompt();
+    put(out, tap::SHOWING, tap.showing().to_be_bytes());
+    out[tap::ANSWER] = tap.answer();
 }

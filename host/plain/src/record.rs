@@ -45,7 +45,12 @@ impl Record {
         self.origin < screens
             && self.number >= 1
             && self.number <= m.0[self.origin]
-            && self.label.0[self.origin] < self.number
+            && self.label_is_earlier()
             && self.label.fits(screens)
+    }
+
+    /// Whether the label names only records of the origin that come before this one.
+    fn label_is_earlier(&self) -> bool {
+        self.label.0[self.origin] < self.number
     }
 }

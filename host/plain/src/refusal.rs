@@ -16,11 +16,11 @@ pub enum Refusal {
     Crossed = 5,
     /// The sender claims records of this screen that it has not taken.
     ClaimsOurs = 6,
-    /// The book would know more than 1,024 records.
+    /// The book would know more records than it may.
     Spent = 7,
     /// A record that the gossip's stamp promises is not in it.
     Gap = 8,
-    /// The log would hold more than 256 records.
+    /// The log would hold more records than it may.
     NoRoom = 9,
     /// The lent book is unsound or of wrong length.
     Unsound = 11,
@@ -29,26 +29,28 @@ pub enum Refusal {
 }
 
 impl Refusal {
+    /// Every refusal. Ten is not used.
+    pub const ALL: [Refusal; 11] = [
+        Refusal::Malformed,
+        Refusal::House,
+        Refusal::LabelAhead,
+        Refusal::Old,
+        Refusal::Crossed,
+        Refusal::ClaimsOurs,
+        Refusal::Spent,
+        Refusal::Gap,
+        Refusal::NoRoom,
+        Refusal::Unsound,
+        Refusal::ShortOutput,
+    ];
+
     /// The number on the wire.
     pub fn number(self) -> u8 {
         self as u8
     }
 
-    /// The refusal of that number. Ten is not used.
+    /// The refusal of that number.
     pub fn from_number(number: u8) -> Option<Refusal> {
-        Some(match number {
-            1 => Refusal::Malformed,
-            2 => Refusal::House,
-            3 => Refusal::LabelAhead,
-            4 => Refusal::Old,
-            5 => Refusal::Crossed,
-            6 => Refusal::ClaimsOurs,
-            7 => Refusal::Spent,
-            8 => Refusal::Gap,
-            9 => Refusal::NoRoom,
-            11 => Refusal::Unsound,
-            12 => Refusal::ShortOutput,
-            _ => return None,
-        })
+        Refusal::ALL.into_iter().find(|refusal| refusal.number() == number)
     }
 }

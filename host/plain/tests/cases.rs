@@ -1,14 +1,15 @@
 //! The practice cases of document 01, A to O, and its whole case.
 
+use plain::wire::{kind, reply_bytes, HEAD_BYTES, RECORD_BYTES, STAMP_BYTES};
 use plain::{
-    entry, Book, Gossip, Prompt, QuestionAnswer, Refusal, Stamp, Tap, TapAnswer, Verdict, KNOWN_ROOM,
+    entry, Bits, Book, Gossip, Prompt, QuestionAnswer, Refusal, Stamp, Tap, TapAnswer, Verdict, KNOWN_ROOM,
     LOG_ROOM, WORDS,
 };
 
 const NO_LABEL: Stamp = Stamp::ZERO;
 
 fn stamp(a: u32, b: u32, c: u32) -> Stamp {
-    Stamp([a, b, c, 0, 0, 0, 0, 0])
+    Stamp::first(&[a, b, c])
 }
 
 fn tap(front_end: u8, serial: u32, showing: u16, answer: u8) -> Tap {
@@ -27,7 +28,7 @@ fn taken(a: u32, b: u32, c: u32) -> Result<TapAnswer, Refusal> {
     Ok(TapAnswer::Taken(stamp(a, b, c)))
 }
 
-fn wait(lacking: u8) -> Result<QuestionAnswer, Refusal> {
+fn wait(lacking: Bits) -> Result<QuestionAnswer, Refusal> {
     Ok(QuestionAnswer::Wait { lacking })
 }
 
@@ -54,8 +55,8 @@ fn deliver(book: &mut Book, message: &[u8]) -> Result<(u16, u16), Refusal> {
 
 /// A gossip head of three screens with these records' bytes after it.
 fn message(sender: u8, m: Stamp, records: &[u8]) -> Vec<u8> {
-    let count = (records.len() / plain::RECORD_BYTES) as u8;
-    let mut bytes = vec![1, sender, 3, 0, count];
+    let count = (records.len() / RECORD_BYTES) as u8;
+    let mut bytes = vec![kind::GOSSIP, sender, 3, 0, count];
     bytes.extend(m.0.iter().flat_map(|part| part.to_be_bytes()));
     bytes.extend(records);
     bytes
@@ -152,7 +153,7 @@ fn i_label_ahead() {
 #[test]
 fn j_gap() {
     let whole = sent(&after_b());
-    let second = &whole[plain::HEAD_BYTES + plain::RECORD_BYTES..];
+    let second = &whole[HEAD_BYTES + RECORD_BYTES..];
     let bytes = message(0, stamp(2, 0, 0), second);
     assert_eq!(deliver(&mut open(1, 3), &bytes), Err(Refusal::Gap));
 }
@@ -176,7 +177,7 @@ fn m_dropped_at_once() {
     assert_eq!(deliver(&mut one, &sent(&zero)), Ok((1, 1)));
     assert!(one.log().is_empty());
     let back = sent(&one);
-    assert_eq!(back.len(), plain::HEAD_BYTES);
+    assert_eq!(back.len(), HEAD_BYTES);
     assert_eq!(deliver(&mut zero, &back), Ok((0, 0)));
     assert!(zero.log().is_empty());
 }
@@ -221,40 +222,44 @@ fn o_known_room() {
     assert_eq!(Book::from_words(&zero.words()), Some(zero));
 }
 
+/// Bytes that end in a stamp of which only the first part is not zero.
+fn with_stamp(front: &[u8], part: u32) -> Vec<u8> {
+    let stamp = Stamp::first(&[part]);
+    let parts = stamp.0.iter().flat_map(|part| part.to_be_bytes());
+    front.iter().copied().chain(parts).collect()
+}
+
+/// The bytes are document 01's own.
 #[test]
 fn whole_case() {
     let mut words = vec![u64::MAX; WORDS];
     assert_eq!(entry::open(&mut words, 0, 2), 0);
 
-    let mut tap = vec![3, 5, 0, 0, 0, 1, 7, 0, 1, 1];
-    tap.extend([0; 32]);
-    let mut output = vec![0xee; 200];
+    let tap = with_stamp(&[3, 5, 0, 0, 0, 1, 7, 0, 1, 1], 0);
+    let mut expected = with_stamp(&[5], 1);
+    expected.extend(with_stamp(&[1, 0, 2, 0, 1], 1));
+    expected.extend(with_stamp(&[2, 0, 0, 0, 0, 1], 0));
+    expected.extend([5, 0, 0, 0, 1, 7, 0, 1, 1]);
+
+    let untouched = [0xee; 83];
+    let mut output = vec![0xee; expected.len() + untouched.len()];
     let first = entry::answer(&mut words, &tap, &mut output);
     let second = entry::answer(&mut words, &[12], &mut output[first..]);
-    assert_eq!(first + second, 117);
-    assert!(output[117..].iter().all(|&byte| byte == 0xee));
-
-    let mut expected = vec![5, 0, 0, 0, 1];
-    expected.extend([0; 28]);
-    expected.extend([1, 0, 2, 0, 1, 0, 0, 0, 1]);
-    expected.extend([0; 28]);
-    expected.extend([2, 0, 0, 0, 0, 1]);
-    expected.extend([0; 32]);
-    expected.extend([5, 0, 0, 0, 1, 7, 0, 1, 1]);
-    assert_eq!(output[..117], expected);
+    assert_eq!(first + second, expected.len());
+    assert_eq!(output, [&expected[..], &untouched].concat());
 }
 
 #[test]
 fn unsound_stands_before_unreadable() {
     let mut words = open(0, 2).words();
-    let mut reply = [0; 44];
-    assert_eq!(entry::answer(&mut words, &[], &mut reply), 2);
-    assert_eq!(reply[..2], [9, 1]);
+    let mut reply = [0; reply_bytes(kind::REFUSAL)];
+    assert_eq!(entry::answer(&mut words, &[], &mut reply), reply.len());
+    assert_eq!(reply, [9, 1]);
     words[1] = 9;
-    assert_eq!(entry::answer(&mut words, &[], &mut reply), 2);
-    assert_eq!(reply[..2], [9, 11]);
-    assert_eq!(entry::answer(&mut [0; 5], &[12], &mut reply), 2);
-    assert_eq!(reply[..2], [9, 11]);
+    assert_eq!(entry::answer(&mut words, &[], &mut reply), reply.len());
+    assert_eq!(reply, [9, 11]);
+    assert_eq!(entry::answer(&mut [0; 5], &[kind::SEND], &mut reply), reply.len());
+    assert_eq!(reply, [9, 11]);
     assert_eq!(entry::open(&mut [0; 5], 9, 9), 11);
     assert_eq!(entry::open(&mut words, 9, 9), 2);
 }
@@ -264,22 +269,41 @@ fn read_at(reply: impl Fn(u8) -> Vec<u8>) -> Vec<u8> {
     (0..=255).filter(|&byte| entry::reply_kind(&reply(byte)) != 0).collect()
 }
 
+/// A reply of that kind, every byte of whose body is the same.
+fn filled(kind: u8, filling: u8) -> Vec<u8> {
+    let mut bytes = vec![filling; reply_bytes(kind)];
+    bytes[0] = kind;
+    bytes
+}
+
 #[test]
 fn replies_at_their_edges() {
-    assert_eq!(read_at(|number| vec![9, number]), [1, 2, 3, 4, 5, 6, 7, 8, 9, 11, 12]);
-    assert_eq!(read_at(|verdict| [&[7, verdict], [0; 42].as_slice()].concat()), [0, 1, 2, 3]);
-    assert_eq!(read_at(|lacking| vec![8, lacking]).len(), 256);
-    // All parts of a stamp are free, and counts above 256 are read.
-    for (kind, length) in [(5, 32), (6, 32), (10, 4)] {
-        let mut bytes = vec![255; 1 + length];
-        bytes[0] = kind;
+    assert_eq!(read_at(|number| vec![kind::REFUSAL, number]), [1, 2, 3, 4, 5, 6, 7, 8, 9, 11, 12]);
+    let verdict = |number| {
+        let mut bytes = filled(kind::VERDICT, 0);
+        bytes[1] = number;
+        bytes
+    };
+    assert_eq!(read_at(verdict), [0, 1, 2, 3]);
+    assert_eq!(read_at(|lacking| vec![kind::WAIT, lacking]).len(), 256);
+    // All parts of a stamp are free, and counts above what a log holds are read.
+    for kind in [kind::TAKEN, kind::ALREADY, kind::GOSSIP_TAKEN] {
+        let mut bytes = filled(kind, 255);
         assert_eq!(entry::reply_kind(&bytes), kind);
-        assert_eq!(entry::reply_kind(&bytes[..length]), 0);
+        assert_eq!(entry::reply_kind(&bytes[..bytes.len() - 1]), 0);
         bytes.push(255);
         assert_eq!(entry::reply_kind(&bytes), 0);
     }
     // Requests, and the gossip that answers a send, are no such replies.
-    assert_eq!(entry::reply_kind(&[12]), 0);
+    assert_eq!(entry::reply_kind(&[kind::SEND]), 0);
     assert_eq!(entry::reply_kind(&sent(&after_b())), 0);
     assert_eq!(entry::reply_kind(&[]), 0);
+}
+
+/// The lengths that document 01 and docs/LAYOUT.md have, worked out from the limits.
+#[test]
+fn the_lengths_are_the_pages() {
+    let replies = [kind::TAKEN, kind::ALREADY, kind::VERDICT, kind::WAIT, kind::REFUSAL, kind::GOSSIP_TAKEN];
+    assert_eq!(replies.map(|kind| reply_bytes(kind) - 1), [32, 32, 43, 1, 1, 4]);
+    assert_eq!((HEAD_BYTES - 1, RECORD_BYTES - 1, STAMP_BYTES, WORDS), (36, 46, 32, 4108));
 }

@@ -1,7 +1,10 @@
 //! Random runs of whole houses: after every step the book is what document 01's definitions make of the history of all
 //! taps taken.
 
-use plain::{Book, Gossip, Prompt, QuestionAnswer, Record, Stamp, Tap, TapAnswer};
+use plain::{
+    Book, Gossip, Prompt, QuestionAnswer, Record, Stamp, Tap, TapAnswer, LEAST_SCREENS, MOST_SCREENS, PARTS,
+    PROMPTS,
+};
 
 const RUNS: u64 = 60;
 const STEPS: usize = 250;
@@ -80,7 +83,7 @@ impl House {
 fn tap(random: &mut Random) -> Tap {
     let (front_end, serial) = (random.below(2) as u8, random.below(5) as u32);
     let (showing, answer) = (1 + random.below(2) as u16, 1 + random.below(2) as u8);
-    Tap::new(front_end, serial, 60 + random.below(3) as u8, showing, answer).unwrap()
+    Tap::new(front_end, serial, PROMPTS as u8 - 1 - random.below(3) as u8, showing, answer).unwrap()
 }
 
 /// Around what the screen knows, and now and then ahead of it.
@@ -99,7 +102,7 @@ fn is_known(record: &Record, known: &Stamp) -> bool {
 }
 
 fn covers(stamp: &Stamp, label: &Stamp) -> bool {
-    (0..8).all(|part| label.0[part] <= stamp.0[part])
+    (0..PARTS).all(|part| label.0[part] <= stamp.0[part])
 }
 
 fn distinct_taps(records: &[&Record]) -> Vec<Tap> {
@@ -125,7 +128,7 @@ fn check_log(book: &Book, known: &[&Record], is_applied: &dyn Fn(&Record) -> boo
 
 /// Each prompt has the highest showing among its counted taps, and that showing's accepts and declines.
 fn check_counts(book: &Book) {
-    for number in 0..64 {
+    for number in 0..PROMPTS as u8 {
         let taps = || book.counted().iter().filter(|tap| tap.prompt() == number);
         let showing = taps().map(|tap| tap.showing()).max().unwrap_or(0);
         let count =
@@ -140,10 +143,11 @@ fn check_counts(book: &Book) {
 
 #[test]
 fn books_are_what_the_history_makes_them() {
+    let houses: Vec<u64> = (LEAST_SCREENS..=MOST_SCREENS).map(|screens| screens as u64).collect();
     for seed in 1..=RUNS {
         println!("seed {seed}");
         let mut random = Random(seed << 32 | 0x9e37_79b9);
-        let mut house = House::open(2 + seed % 7);
+        let mut house = House::open(houses[seed as usize % houses.len()]);
         for _ in 0..STEPS {
             let screen = house.step(&mut random);
             house.check(screen);

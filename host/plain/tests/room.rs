@@ -1,12 +1,14 @@
 //! The room for a reply, for every kind at its edge: one byte less than the reply, and exactly the reply.
 
-use plain::{entry, Book, Stamp, Tap, KNOWN_ROOM, LOG_ROOM};
+use plain::wire::{kind, reply_bytes, HEAD_BYTES, LONGEST_GOSSIP, RECORD_BYTES};
+use plain::{entry, Book, Stamp, Tap, KNOWN_ROOM, LOG_ROOM, MOST_SCREENS, PROMPTS};
 
 const UNTOUCHED: u8 = 0xee;
-const SEND: [u8; 1] = [12];
+const SEND: [u8; 1] = [kind::SEND];
+const REFUSAL: usize = reply_bytes(kind::REFUSAL);
 
 fn stamp(a: u32, b: u32, c: u32) -> Stamp {
-    Stamp([a, b, c, 0, 0, 0, 0, 0])
+    Stamp::first(&[a, b, c])
 }
 
 fn tap(serial: u32) -> Tap {
@@ -14,16 +16,16 @@ fn tap(serial: u32) -> Tap {
 }
 
 fn tap_bytes(serial: u8, label: Stamp) -> Vec<u8> {
-    with_label(&[3, 5, 0, 0, 0, serial, 7, 0, 1, 1], label)
+    with_label(&[kind::TAP, 5, 0, 0, 0, serial, 7, 0, 1, 1], label)
 }
 
 fn question_bytes(prompt: u8, label: Stamp) -> Vec<u8> {
-    with_label(&[4, prompt], label)
+    with_label(&[kind::QUESTION, prompt], label)
 }
 
 /// Gossip without records.
 fn gossip_bytes(sender: u8, screens: u8, m: Stamp) -> Vec<u8> {
-    with_label(&[1, sender, screens, 0, 0], m)
+    with_label(&[kind::GOSSIP, sender, screens, 0, 0], m)
 }
 
 fn with_label(front: &[u8], label: Stamp) -> Vec<u8> {
@@ -74,7 +76,7 @@ fn full_log_and_full_book() -> (Book, Book) {
             entered(&mut zero, &sent(&one));
         }
     }
-    (full_log.expect("256 taps fill a log"), zero)
+    (full_log.expect("taps fill a log"), zero)
 }
 
 /// With every room below `length` nothing is said and nothing changes; from there on the reply is said, and the words
@@ -105,102 +107,106 @@ fn said_from(length: usize, book: &Book, request: &[u8]) -> Vec<u8> {
 }
 
 #[track_caller]
-fn refused_from_two(book: &Book, request: &[u8], number: u8) {
-    assert_eq!(said_from(2, book, request), [9, number]);
+fn refused(book: &Book, request: &[u8], number: u8) {
+    assert_eq!(said_from(REFUSAL, book, request), [9, number]);
 }
 
 #[test]
-fn a_new_tap_is_taken_from_33() {
+fn a_new_tap_is_taken_in_its_room() {
     let before = two_taps();
-    let (reply, after) = fits_from(33, &before.words(), &tap_bytes(3, Stamp::ZERO));
+    let (reply, after) = fits_from(reply_bytes(kind::TAKEN), &before.words(), &tap_bytes(3, Stamp::ZERO));
     assert_eq!(reply, with_label(&[5], stamp(3, 0, 0)));
     assert_eq!(Book::from_words(&after).unwrap().log().len(), 3);
 }
 
 #[test]
-fn a_repeat_is_said_from_33() {
-    let counted = said_from(33, &two_taps(), &tap_bytes(1, Stamp::ZERO));
+fn a_repeat_is_said_in_its_room() {
+    let counted = said_from(reply_bytes(kind::ALREADY), &two_taps(), &tap_bytes(1, Stamp::ZERO));
     assert_eq!(counted, with_label(&[6], stamp(2, 0, 0)));
     let mut waiting = two_taps();
     waiting.tap(tap(3), stamp(0, 9, 0)).unwrap();
-    let logged = said_from(33, &waiting, &tap_bytes(3, Stamp::ZERO));
+    let logged = said_from(reply_bytes(kind::ALREADY), &waiting, &tap_bytes(3, Stamp::ZERO));
     assert_eq!(logged, with_label(&[6], stamp(3, 9, 0)));
 }
 
 #[test]
-fn a_verdict_is_said_from_44_and_a_wait_from_2() {
-    let verdict = said_from(44, &two_taps(), &question_bytes(7, stamp(2, 0, 0)));
+fn a_verdict_and_a_wait_are_said_in_their_room() {
+    let verdict = said_from(reply_bytes(kind::VERDICT), &two_taps(), &question_bytes(7, stamp(2, 0, 0)));
     assert_eq!(verdict, with_label(&[7, 1, 0, 1, 0, 0, 0, 2, 0, 0, 0, 0], stamp(2, 0, 0)));
-    assert_eq!(said_from(2, &two_taps(), &question_bytes(7, stamp(0, 1, 1))), [8, 0x06]);
+    assert_eq!(
+        said_from(reply_bytes(kind::WAIT), &two_taps(), &question_bytes(7, stamp(0, 1, 1))),
+        [8, 0x06]
+    );
 }
 
 #[test]
-fn gossip_is_taken_from_5() {
+fn gossip_is_taken_in_its_room() {
     let fresh = Book::open(1, 3).unwrap();
-    let (reply, after) = fits_from(5, &fresh.words(), &sent(&two_taps()));
+    let (reply, after) = fits_from(reply_bytes(kind::GOSSIP_TAKEN), &fresh.words(), &sent(&two_taps()));
     assert_eq!(reply, [10, 0, 2, 0, 2]);
     assert_eq!(after, told().words());
     // Gossip that brings no record changes the sender's row.
-    let (reply, after) = fits_from(5, &told().words(), &gossip_bytes(2, 3, stamp(2, 0, 0)));
+    let (reply, after) =
+        fits_from(reply_bytes(kind::GOSSIP_TAKEN), &told().words(), &gossip_bytes(2, 3, stamp(2, 0, 0)));
     assert_eq!(reply, [10, 0, 0, 0, 0]);
     assert_ne!(after, told().words());
 }
 
 #[test]
-fn a_send_is_said_from_its_very_message() {
+fn a_send_is_said_in_the_room_of_its_very_message() {
     let fresh = Book::open(0, 3).unwrap();
-    assert_eq!(said_from(37, &fresh, &SEND), sent(&fresh));
-    assert_eq!(said_from(37 + 2 * 47, &two_taps(), &SEND), sent(&two_taps()));
+    assert_eq!(said_from(HEAD_BYTES, &fresh, &SEND), sent(&fresh));
+    assert_eq!(said_from(HEAD_BYTES + 2 * RECORD_BYTES, &two_taps(), &SEND), sent(&two_taps()));
 }
 
 #[test]
-fn a_refused_tap_is_said_from_2() {
-    refused_from_two(&two_taps(), &tap_bytes(1, Stamp::ZERO)[..41], 1);
-    refused_from_two(&two_taps(), &tap_bytes(1, Stamp([0, 0, 0, 1, 0, 0, 0, 0])), 1);
-    refused_from_two(&two_taps(), &tap_bytes(1, stamp(3, 0, 0)), 3);
+fn a_refused_tap_is_said_in_its_room() {
+    refused(&two_taps(), &tap_bytes(1, Stamp::ZERO)[1..], 1);
+    refused(&two_taps(), &tap_bytes(1, Stamp::first(&[0, 0, 0, 1])), 1);
+    refused(&two_taps(), &tap_bytes(1, stamp(3, 0, 0)), 3);
     let (full_log, full_book) = full_log_and_full_book();
-    let unheard = with_label(&[3, 6, 0, 0, 0, 1, 7, 0, 1, 1], Stamp::ZERO);
-    refused_from_two(&full_log, &unheard, 9);
-    refused_from_two(&full_book, &unheard, 7);
+    let unheard = with_label(&[kind::TAP, 6, 0, 0, 0, 1, 7, 0, 1, 1], Stamp::ZERO);
+    refused(&full_log, &unheard, 9);
+    refused(&full_book, &unheard, 7);
 }
 
 #[test]
-fn a_refused_question_is_said_from_2() {
-    refused_from_two(&two_taps(), &question_bytes(64, Stamp::ZERO), 1);
-    refused_from_two(&two_taps(), &question_bytes(7, stamp(3, 0, 0)), 3);
+fn a_refused_question_is_said_in_its_room() {
+    refused(&two_taps(), &question_bytes(PROMPTS as u8, Stamp::ZERO), 1);
+    refused(&two_taps(), &question_bytes(7, stamp(3, 0, 0)), 3);
 }
 
 #[test]
-fn refused_gossip_is_said_from_2() {
-    refused_from_two(&told(), &gossip_bytes(0, 9, stamp(2, 0, 0)), 1);
-    refused_from_two(&told(), &gossip_bytes(1, 3, stamp(2, 0, 0)), 2);
-    refused_from_two(&told(), &gossip_bytes(0, 3, stamp(2, 0, 0)), 4);
-    refused_from_two(&told(), &gossip_bytes(0, 3, stamp(1, 0, 1)), 5);
-    refused_from_two(&told(), &gossip_bytes(0, 3, stamp(2, 1, 0)), 6);
-    refused_from_two(&told(), &gossip_bytes(0, 3, stamp(1025, 0, 0)), 7);
-    refused_from_two(&told(), &gossip_bytes(0, 3, stamp(3, 0, 0)), 8);
+fn refused_gossip_is_said_in_its_room() {
+    refused(&told(), &gossip_bytes(0, MOST_SCREENS as u8 + 1, stamp(2, 0, 0)), 1);
+    refused(&told(), &gossip_bytes(1, 3, stamp(2, 0, 0)), 2);
+    refused(&told(), &gossip_bytes(0, 3, stamp(2, 0, 0)), 4);
+    refused(&told(), &gossip_bytes(0, 3, stamp(1, 0, 1)), 5);
+    refused(&told(), &gossip_bytes(0, 3, stamp(2, 1, 0)), 6);
+    refused(&told(), &gossip_bytes(0, 3, stamp(KNOWN_ROOM as u32 + 1, 0, 0)), 7);
+    refused(&told(), &gossip_bytes(0, 3, stamp(3, 0, 0)), 8);
     let mut other = Book::open(1, 2).unwrap();
     other.tap(tap(1), Stamp::ZERO).unwrap();
-    refused_from_two(&full_log_and_full_book().0, &sent(&other), 9);
+    refused(&full_log_and_full_book().0, &sent(&other), 9);
 }
 
 #[test]
-fn bytes_that_are_no_request_are_refused_from_2() {
+fn bytes_that_are_no_request_are_refused() {
     for bytes in [&[][..], &[0], &[2, 0], &[5], &[12, 0], &[255; 44]] {
-        refused_from_two(&two_taps(), bytes, 1);
+        refused(&two_taps(), bytes, 1);
     }
 }
 
 #[test]
-fn a_damaged_book_is_refused_from_2() {
+fn a_damaged_book_is_refused() {
     let mut damaged = two_taps().words();
-    damaged[1] = 9;
+    damaged[1] = MOST_SCREENS as u64 + 1;
     let gossip = sent(&told());
     let requests =
         [&tap_bytes(3, Stamp::ZERO)[..], &question_bytes(7, Stamp::ZERO), &gossip, &SEND, &[], &[0]];
     for request in requests {
         for words in [&damaged[..], &damaged[..5], &[]] {
-            assert_eq!(fits_from(2, words, request), (vec![9, 11], words.to_vec()));
+            assert_eq!(fits_from(REFUSAL, words, request), (vec![9, 11], words.to_vec()));
         }
     }
 }
@@ -209,10 +215,11 @@ fn a_damaged_book_is_refused_from_2() {
 fn the_room_told_is_enough_for_the_longest() {
     let (full_log, _) = full_log_and_full_book();
     assert_eq!(entry::reply_room(&SEND), full_log.send_bytes());
-    assert_eq!(entry::reply_room(&tap_bytes(1, Stamp::ZERO)), 33);
-    assert_eq!(entry::reply_room(&question_bytes(7, Stamp::ZERO)), 44);
-    assert_eq!(entry::reply_room(&gossip_bytes(0, 3, Stamp::ZERO)), 5);
+    assert_eq!(entry::reply_room(&SEND), LONGEST_GOSSIP);
+    assert_eq!(entry::reply_room(&tap_bytes(1, Stamp::ZERO)), reply_bytes(kind::TAKEN));
+    assert_eq!(entry::reply_room(&question_bytes(7, Stamp::ZERO)), reply_bytes(kind::VERDICT));
+    assert_eq!(entry::reply_room(&gossip_bytes(0, 3, Stamp::ZERO)), reply_bytes(kind::GOSSIP_TAKEN));
     for bytes in [&[][..], &[0], &[2], &[5], &[255]] {
-        assert_eq!(entry::reply_room(bytes), 2);
+        assert_eq!(entry::reply_room(bytes), REFUSAL);
     }
 }

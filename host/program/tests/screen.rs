@@ -5,6 +5,12 @@ use program::{vectors, Screen};
 /// Of input that is longer, single bytes would take long: a pipe's write is slow in an emulator.
 const SHORT: usize = 2_000;
 
+/// The lengths of the messages of the whole case.
+const STAMP_BYTES: usize = 32;
+const OPEN_BYTES: usize = 1 + 2;
+const TAP_BYTES: usize = 1 + 9 + STAMP_BYTES;
+const TAKEN_BYTES: usize = 1 + STAMP_BYTES;
+
 #[test]
 fn every_vector_whatever_the_pieces() {
     for vector in vectors() {
@@ -18,9 +24,9 @@ fn every_vector_whatever_the_pieces() {
 fn each_reply_before_the_next_message() {
     let whole_case = &vectors()[0];
     assert_eq!(whole_case.name, "whole-case");
-    let (open, messages) = whole_case.input.split_at(3);
-    let (tap, send) = messages.split_at(42);
-    let (taken, gossip) = whole_case.output.split_at(33);
+    let (open, messages) = whole_case.input.split_at(OPEN_BYTES);
+    let (tap, send) = messages.split_at(TAP_BYTES);
+    let (taken, gossip) = whole_case.output.split_at(TAKEN_BYTES);
 
     let mut screen = Screen::start();
     screen.drip(open);

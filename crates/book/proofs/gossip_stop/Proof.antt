@@ -6,12 +6,12 @@ use borrow.Author.Needs.{needs}
 use borrow.Author.Tests.{not-true, not-false}
 use Rattle.lists.specs.Tests.{firstOf}
 use Rattle.wire.specs.Kinds.{headKind}
-use Rattle.gossip.specs.Message.{wellFormed, messageOf}
-use Rattle.gossip.specs.Tags.{not-this}
-use Rattle.gossip.specs.Told.{gossip-untold}
+use Rattle.message.specs.Message.{wellFormed, messageOf}
+use Rattle.message.specs.Tags.{not-this}
+use Rattle.message.specs.Told.{gossip-untold}
 use Rattle.meaning.specs.Step.{gossipStops}
-use Rattle.layout.specs.Words.{bookOf, lawful}
-use Rattle.answers.specs.Lent.{gossipStop}
+use Rattle.lent.specs.Words.{bookOf, lawful}
+use Rattle.promise.specs.Lent.{gossipStop}
 use Rattle.book.specs.Heard.{stop-unsound, stop-unread, gossip-heard, gossip-stopped-on}
 use Rattle.book.proofs.gossip_stop.Statement.{statement}
 use Rattle.book.proofs.gossip_stop.Tie as tie
@@ -44,8 +44,11 @@ stop-gossip-requires : tie.Need-stop-gossip-requires
 stop-gossip-requires c κs =
     let r = c .before .before .before in
     let e = r .before in
-    let s = entry e .args in
-    (subst T (sym (sound-now e)) tt, gossip-heard (s .b .now) (s .msg .now) _ _ _ _ (sound-now e) (sym (c .before .said .given .1) ∙ r .read-gossip .ensures))
+    let s = entry e .args in (
+      subst T (sym (sound-now e)) tt,
+      gossip-heard (s .b .now) (s .msg .now) _ _ _ _ (sound-now e)
+          (sym (c .before .said .given .1) ∙ r .read-gossip .ensures),
+    )
 
 returns-3 : tie.Need-returns-3
 returns-3 c =
@@ -53,7 +56,8 @@ returns-3 c =
     let r = d .before .before in
     let e = r .before in
     let s = entry e .args in
-    gossip-stopped-on (s .b .now) (s .msg .now) _ _ _ _ (sound-now e) (sym (d .said .given .1) ∙ r .read-gossip .ensures) (c .stop-gossip .result) (c .stop-gossip .ensures)
+    gossip-stopped-on (s .b .now) (s .msg .now) _ _ _ _ (sound-now e)
+    (sym (d .said .given .1) ∙ r .read-gossip .ensures) (c .stop-gossip .result) (c .stop-gossip .ensures)
 
 pub gossip-stop-spec : {M : Type 1} → statement M
 gossip-stop-spec =

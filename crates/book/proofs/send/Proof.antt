@@ -4,7 +4,7 @@ use mathlib.Core.Bool.{true}
 use lib.Dec.{T}
 use borrow.Author.Needs.{needs}
 use borrow.Author.Tests.{not-true, not-false}
-use Rattle.layout.specs.Words.{lawful}
+use Rattle.lent.specs.Words.{lawful}
 use Rattle.book.specs.Heard.{send-owes-unsound, send-owes}
 use Rattle.book.proofs.send.Statement.{statement}
 use Rattle.book.proofs.send.Tie as tie

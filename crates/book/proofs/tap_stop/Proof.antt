@@ -1,20 +1,19 @@
 -- `book::tap_stop` meets its contract. Assumes nothing.
-use native.Mathlib.Omega.{arith}
-use mathlib.Core.Path.{_≡_, sym, subst, _∙_}
+use Prim.Native.Nat.{ℕ}
+use mathlib.Core.Path.{_≡_, sym, ap, subst, _∙_}
 use mathlib.Core.Bool.{true}
 use lib.Dec.{T}
 use borrow.Author.Needs.{needs}
 use borrow.Author.Tests.{not-true, not-false}
 use Rattle.lists.specs.Tests.{firstOf}
 use Rattle.wire.specs.Kinds.{tapKind, tapAt, stampAt}
-use Rattle.wire.specs.Read.{lineOf, readable}
+use Rattle.wire.specs.Read.{lineOf, readable, readAs}
 use Rattle.wire.specs.ReadLaws.{untold}
-use Rattle.gossip.specs.Tags.{not-this}
+use Rattle.message.specs.Tags.{not-this}
 use Rattle.meaning.specs.Step.{tapStops}
-use Rattle.layout.specs.SoundWords.{lawful-held}
-use Rattle.layout.specs.Words.{bookOf, lawful}
-use Rattle.moves.specs.Places.{held-long}
-use Rattle.answers.specs.Lent.{tapStop}
+use Rattle.lent.specs.SoundWords.{lawful-held}
+use Rattle.lent.specs.Words.{bookOf, lawful}
+use Rattle.promise.specs.Lent.{tapStop}
 use Rattle.book.specs.Heard.{stop-unsound, stop-unread, tap-fits, tap-stopped-on}
 use Rattle.book.proofs.tap_stop.Statement.{statement}
 use Rattle.book.proofs.tap_stop.Tie as tie
@@ -35,40 +34,44 @@ returns c =
     stop-unsound (s .b .now) (sym (c .before .sound .ensures) ∙ not-true _ (c .if1 .taken)) (readable k (s .msg .now))
     (firstOf (tapStops (bookOf (s .b .now)) (tapAt 1 line) (stampAt 6 line)))
 
-shared-slice-read-n : tie.Need-shared-slice-read-n
-shared-slice-read-n c =
-    let ws = entry (c .before) .args .b .now in
-    omega (arith, held-long ws (lawful-held ws (subst T (sym (sound-now (c .before))) tt)))
+screens-of-requires : tie.Need-screens-of-requires
+screens-of-requires c κs = lawful-held (entry c .args .b .now) (subst T (sym (sound-now c)) tt)
+
+-- what was read is read for a house of the book's screens
+heard : (r : tie.After-read-tap) → let s = entry (r .before .before) .args in
+    r .read-tap .result ≡ readAs (tapKind ((bookOf (s .b .now)) .screens)) (s .msg .now)
+heard r = r .read-tap .ensures
+    ∙ ap (λ (n : ℕ). readAs (tapKind n) ((entry (r .before .before) .args) .msg .now))
+    (r .before .screens-of .ensures .0)
 
 returns-2 : tie.Need-returns-2
-unfolding tapStop bookOf tapKind
+unfolding tapStop tapKind
 returns-2 c =
     let e = c .before .before .before in
     let s = entry e .args in
     let k = tapKind (bookOf (s .b .now) .screens) in
     let line = lineOf k (s .msg .now) in
     stop-unread (s .b .now) (sound-now e) (readable k (s .msg .now))
-    (untold k (s .msg .now) (c .before .read-tap .result) (c .before .read-tap .ensures)
+    (untold k (s .msg .now) (c .before .read-tap .result) (heard (c .before))
     (not-this _ _ (c .match .keys2) tt))
     (firstOf (tapStops (bookOf (s .b .now)) (tapAt 1 line) (stampAt 6 line)))
 
 stop-tap-requires : tie.Need-stop-tap-requires
-unfolding bookOf
 stop-tap-requires c κs =
     let r = c .before .before .before in
     let e = r .before .before in
     let s = entry e .args in
-    let f = tap-fits (s .b .now) (s .msg .now) _ _ (sound-now e) (sym (c .before .said .given .1) ∙ r .read-tap .ensures) in
+    let f = tap-fits (s .b .now) (s .msg .now) _ _ (sound-now e) (sym (c .before .said .given .1) ∙ heard r) in
     (subst T (sym (sound-now e)) tt, (f .0, f .1))
 
 returns-3 : tie.Need-returns-3
-unfolding bookOf
 returns-3 c =
     let d = c .before .before in
     let r = d .before .before in
     let e = r .before .before in
     let s = entry e .args in
-    tap-stopped-on (s .b .now) (s .msg .now) _ _ (sound-now e) (sym (d .said .given .1) ∙ r .read-tap .ensures) (c .stop-tap .result) (c .stop-tap .ensures)
+    tap-stopped-on (s .b .now) (s .msg .now) _ _ (sound-now e) (sym (d .said .given .1) ∙ heard r) (c .stop-tap .result)
+    (c .stop-tap .ensures)
 
 pub tap-stop-spec : {M : Type 1} → statement M
 tap-stop-spec =
@@ -76,7 +79,7 @@ tap-stop-spec =
     (tie.spec
     (λ c κs. search needs)
     returns
-    shared-slice-read-n
+    screens-of-requires
     (λ c κs. search needs)
     (λ c. search needs)
     returns-2

@@ -5,6 +5,8 @@ use mathlib.Core.Bool.{true}
 use mathlib.Core.List.{[], _∷_}
 use Prim.Native.Nat.{_≤_}
 use lib.ListN.{getD}
+use Rattle.stamp.specs.Stamp.{total}
+use Rattle.wire.specs.Kinds.{recordBody}
 use Rattle.wire.specs.Returns.{failed, passed}
 use Rattle.wire.specs.declared.Body.{Body}
 use Rattle.wire.specs.declared.Body.the-variants.{Long, Bad}
@@ -16,11 +18,13 @@ use borrow.Author.Needs.{needs}
 use Rattle.frames.proofs.frame_of.Statement.{statement}
 use Rattle.frames.proofs.frame_of.Tie as tie
 
-never : (b : Body) → types.Run.OneOf (1 ∷ []) (denote.Enum.Declared.tagOf Rattle.wire.proofs.Body.the-type b) → Stop ≡ bodyFrame b
+never : (b : Body) → types.Run.OneOf (1 ∷ []) (denote.Enum.Declared.tagOf Rattle.wire.proofs.Body.the-type b)
+    → Stop ≡ bodyFrame b
 never (Long m) h = absurd (omega arith)
 never (Bad r) h = refl
 
-known : (c : tie.Else2) → expected (c .before .before .before .before .before .args .opened) (getD (c .before .before .before .before .before .args .read .now) 0 0) ≡ true
+known : (c : tie.Else2) → expected (c .before .before .before .before .before .args .opened)
+    (getD (c .before .before .before .before .before .args .read .now) 0 0) ≡ true
 known c = passed (c .before .is-expected .ensures) (c .if2 .left)
 
 returns : tie.Need-returns
@@ -45,12 +49,14 @@ returns-4 c =
     let n = b .before .before in
     let e = n .before .before .before in
     let s = e .before .before .args in
-    never (b .body-of .result) (c .before .match .keys2) ∙ ap bodyFrame (b .body-of .ensures) ∙ others (s .read .now) (s .opened) (e .if1 .left) (known n) (b .before .if3 .left)
+    never (b .body-of .result) (c .before .match .keys2) ∙ ap bodyFrame (b .body-of .ensures)
+    ∙ others (s .read .now) (s .opened) (e .if1 .left) (known n) (b .before .if3 .left)
 
 add-t6 : tie.Need-add-t6
 add-t6 c =
     let b = c .before .before .before in
-    let k : c .before .body .given .0 .0 ≤ 46 = body-few _ _ (sym (b .body-of .ensures) ∙ c .before .body .given .1) in
+    let k : c .before .body .given .0 .0
+    ≤ total recordBody = body-few _ _ (sym (b .body-of .ensures) ∙ c .before .body .given .1) in
     search needs
 
 returns-5 : tie.Need-returns-5
@@ -59,7 +65,8 @@ returns-5 c =
     let n = b .before .before in
     let e = n .before .before .before in
     let s = e .before .before .args in
-    ap bodyFrame (sym (c .before .body .given .1) ∙ b .body-of .ensures) ∙ others (s .read .now) (s .opened) (e .if1 .left) (known n) (b .before .if3 .left)
+    ap bodyFrame (sym (c .before .body .given .1) ∙ b .body-of .ensures)
+    ∙ others (s .read .now) (s .opened) (e .if1 .left) (known n) (b .before .if3 .left)
 
 pub frame-of-spec : {M : Type 1} → statement M
 frame-of-spec =

@@ -1,7 +1,7 @@
 -- `frames::gossip_frame` meets its contract. Assumes nothing.
 use native.Mathlib.Omega.{arith}
-use Rattle.ledger.specs.Limits.{logRoom}
-use Rattle.frames.specs.Frame.{countIn}
+use Rattle.limits.specs.LimitLaws.{log-counts}
+use Rattle.frames.specs.Frame.{countRead}
 use Rattle.frames.proofs.Lines.{asks, crowded, counted}
 use borrow.Author.Needs.{needs}
 use Rattle.frames.proofs.gossip_frame.Statement.{statement}
@@ -11,17 +11,27 @@ returns : tie.Need-returns
 returns c = asks (c .before .before .args .read .now) (c .if1 .taken)
 
 returns-2 : tie.Need-returns-2
-unfolding logRoom countIn
+unfolding countRead
 returns-2 c =
-    let e = c .before .before in
-    crowded (e .before .before .args .read .now) (omega arith) (omega (arith, c .before .number-at .ensures))
+    let e = c .before .before .before in
+    crowded (e .before .before .args .read .now) (omega arith)
+    (omega (arith, c .before .before .number-at .ensures, c .before .log-room .ensures))
 
 returns-3 : tie.Need-returns-3
-unfolding logRoom countIn
+unfolding countRead
 returns-3 c =
-    let e = c .before .before in
-    rw (c .before .number-at .ensures .0) (counted (e .before .before .args .read .now) (omega arith) (omega (arith, c .before .number-at .ensures)))
+    let e = c .before .before .before in
+    rw (c .before .before .number-at .ensures .0)
+    (counted (e .before .before .args .read .now) (omega arith)
+    (omega (arith, c .before .before .number-at .ensures, c .before .log-room .ensures)))
+
+mul-t6 : tie.Need-mul-t6
+mul-t6 c = omega (arith, log-counts, c .before .log-room .ensures)
+
+add-t7 : tie.Need-add-t7
+add-t7 c = omega (arith, log-counts, c .before .log-room .ensures)
 
 pub gossip-frame-spec : {M : Type 1} → statement M
 gossip-frame-spec =
-    tie.close (tie.spec returns (λ c κs. search needs) returns-2 (λ c. search needs) (λ c. search needs) returns-3)
+    tie.close
+    (tie.spec returns (λ c κs. search needs) (λ c κs. search needs) returns-2 mul-t6 add-t7 returns-3)

@@ -13,7 +13,8 @@ returns c =
     let b = p .before .before .before .before .before in
     let s = b .args in
     c .first-at-most .ensures
-    ∙ held-climb (s .n) (s .low .now) (s .known .now) _ (recordsAt (s .count) (s .r .now)) (b .pre .1 .0) (search needs) (m .climb-rows .ensures .0 ∙ rw (p .list-of .ensures, p .before .parts-at .ensures))
+    ∙ held-climb (s .n) (s .low .now) (s .known .now) _ (recordsAt (s .count) (s .r .now)) (b .pre .1 .0) (search needs)
+    (m .climb-rows .ensures .0 ∙ rw (p .list-of .ensures, p .before .parts-at .ensures))
 
 pub all-held-spec : {M : Type 1} → statement M
 all-held-spec =

@@ -1,10 +1,11 @@
--- `log::first_at_most` meets its contract. The invariant: what the parts below k decide is what all decide. Assumes nothing.
+-- `log::first_at_most` meets its contract. The invariant: what the parts below k decide is what all decide. Assumes
+-- nothing.
 use Prim.Native.Nat.{ℕ, _≤_}
 use native.Mathlib.Omega.{arith}
 use mathlib.Core.Path.{_≡_, sym, ap, _∙_}
 use lib.Dec.{leb}
 use borrow.Author.Tests.{lt-leb, le-leb}
-use Rattle.lists.specs.Facts.{below-last}
+use Rattle.lists.specs.TestLaws.{below-last}
 use Rattle.lists.specs.Tests.{allBelow}
 use Rattle.stamp.specs.Stamp.{part}
 use borrow.Author.Needs.{needs}
@@ -12,7 +13,8 @@ use Rattle.log.proofs.first_at_most.Statement.{statement}
 use Rattle.log.proofs.first_at_most.Tie as tie
 
 abbrev Inv-loop : tie.InvT-loop
-Inv-loop a b n k₀ k = (k ≤ n) × (allBelow n (λ j. leb (part a j) (part b j)) ≡ allBelow k (λ j. leb (part a j) (part b j)))
+Inv-loop a b n k₀ k = (k ≤ n)
+    × (allBelow n (λ j. leb (part a j) (part b j)) ≡ allBelow k (λ j. leb (part a j) (part b j)))
 
 abbrev μ-loop : tie.MeasureT-loop
 μ-loop a b n k₀ k = k
@@ -21,13 +23,18 @@ returns : tie.Need-returns Inv-loop μ-loop
 returns c =
     let l = c .before .before .before .before in
     let s = l .before .args in
-    sym (l .loop .inv .1 ∙ below-last (λ j. leb (part (s .a .now) j) (part (s .b .now) j)) (l .loop .k) (omega arith) ∙ rw (lt-leb _ _ (c .if1 .taken)))
+    sym (l .loop .inv .1 ∙ below-last (λ j. leb (part (s .a .now) j) (part (s .b .now) j)) (l .loop .k) (omega arith)
+    ∙ rw (lt-leb _ _ (c .if1 .taken)))
 
 loop-again : tie.Need-loop-again Inv-loop μ-loop
 loop-again c =
     let l = c .before .before .before .before in
-    let s = l .before .args in
-    (omega arith, l .loop .inv .1 ∙ below-last (λ j. leb (part (s .a .now) j) (part (s .b .now) j)) (l .loop .k) (omega arith) ∙ rw (le-leb _ _ (c .if1 .left)))
+    let s = l .before .args in (
+      omega arith,
+      l .loop .inv .1
+          ∙ below-last (λ j. leb (part (s .a .now) j) (part (s .b .now) j)) (l .loop .k) (omega arith)
+          ∙ rw (le-leb _ _ (c .if1 .left)),
+    )
 
 returns-2 : tie.Need-returns-2 Inv-loop μ-loop
 returns-2 c =

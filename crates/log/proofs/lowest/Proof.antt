@@ -1,4 +1,5 @@
--- `log::lowest` meets its contract. The invariant: the rows from i on, met with what is written, give the whole. Assumes nothing.
+-- `log::lowest` meets its contract. The invariant: the rows from i on, met with what is written, give the whole.
+-- Assumes nothing.
 use Prim.Native.Nat.{_≤_, _-_, _*_}
 use native.Mathlib.Omega.{arith}
 use mathlib.Core.Path.{_≡_, refl, sym, _∙_}
@@ -12,7 +13,9 @@ use Rattle.log.proofs.lowest.Statement.{statement}
 use Rattle.log.proofs.lowest.Tie as tie
 
 abbrev Inv-loop : tie.InvT-loop
-Inv-loop table n low₀ i₀ at₀ low i at = (i ≤ n) × (at ≡ i * stampLong) × (length low ≡ stampLong) × (lowestFrom low₀ (rows stampLong n table) ≡ lowestRest low table n i at)
+Inv-loop table n low₀ i₀ at₀ low i at =
+    (i ≤ n) × (at ≡ i * stampLong) × (length low ≡ stampLong)
+    × (lowestFrom low₀ (rows stampLong n table) ≡ lowestRest low table n i at)
 
 abbrev μ-loop : tie.MeasureT-loop
 μ-loop table n low₀ i₀ at₀ low i at = n - i
@@ -24,14 +27,23 @@ loop-again : tie.Need-loop-again Inv-loop μ-loop
 loop-again c =
     let m = c .before .before in
     let l = m .before .before .before .before in
-    let s = l .before .before .before .args in
-    (omega arith, omega arith, search needs, rw (m .meet-into .ensures .0) (l .loop .inv .3 ∙ lowest-more (l .loop .low) (s .table .now) (s .n) (l .loop .i) (l .loop .at) (omega arith)))
+    let s = l .before .before .before .args in (
+      omega arith,
+      omega arith,
+      search needs,
+      rw (m .meet-into .ensures .0)
+          (l .loop .inv .3 ∙ lowest-more (l .loop .low) (s .table .now) (s .n) (l .loop .i) (l .loop .at)
+          (omega arith)),
+    )
 
 returns : tie.Need-returns Inv-loop μ-loop
 returns c =
     let l = c .before in
-    let s = l .before .before .before .args in
-    (sym (l .loop .inv .3 ∙ lowest-end (l .loop .low) (s .table .now) (s .n) (l .loop .i) (l .loop .at) (c .loop-test .left)), l .loop .inv .2)
+    let s = l .before .before .before .args in (
+      sym (l .loop .inv .3 ∙ lowest-end (l .loop .low) (s .table .now) (s .n) (l .loop .i) (l .loop .at)
+          (c .loop-test .left)),
+      l .loop .inv .2,
+    )
 
 pub lowest-spec : {M : Type 1} → statement M
 lowest-spec =

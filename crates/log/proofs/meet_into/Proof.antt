@@ -1,4 +1,5 @@
--- `log::meet_into` meets its contract. The invariant: the whole is what is written up to i, and the meet of the rest. Assumes nothing.
+-- `log::meet_into` meets its contract. The invariant: the whole is what is written up to i, and the meet of the rest.
+-- Assumes nothing.
 use Prim.Native.Nat.{_≤_, _-_}
 use native.Mathlib.Omega.{arith}
 use mathlib.Core.Path.{_≡_, sym, _∙_}
@@ -22,7 +23,12 @@ loop-less c = simp length-set (omega arith)
 loop-again : tie.Need-loop-again Inv-loop μ-loop
 loop-again c =
     let l = c .before .before .before .before in
-    simp length-set (omega arith, omega arith, l .loop .inv .2 ∙ meet-more _ _ (l .loop .i) (omega arith) (omega arith) _ (c .smaller .ensures))
+    simp length-set (
+      omega arith,
+      omega arith,
+      l .loop .inv .2
+          ∙ meet-more _ _ (l .loop .i) (omega arith) (omega arith) _ (c .smaller .ensures),
+    )
 
 returns : tie.Need-returns Inv-loop μ-loop
 returns c = (sym (c .before .loop .inv .2 ∙ meet-end _ _ _ (c .loop-test .left)), c .before .loop .inv .1)

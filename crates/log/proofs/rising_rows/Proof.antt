@@ -1,4 +1,5 @@
--- `log::rising_rows` meets its contract. The invariant: what the rows from i on decide is what all decide. Assumes nothing.
+-- `log::rising_rows` meets its contract. The invariant: what the rows from i on decide is what all decide. Assumes
+-- nothing.
 use Prim.Native.Nat.{_≤_, _-_, _*_}
 use native.Mathlib.Omega.{arith}
 use mathlib.Core.Path.{_≡_, refl, sym, _∙_}
@@ -13,7 +14,8 @@ use Rattle.log.proofs.rising_rows.Statement.{statement}
 use Rattle.log.proofs.rising_rows.Tie as tie
 
 abbrev Inv-loop : tie.InvT-loop
-Inv-loop r count i₀ at₀ i at = (i ≤ count) × (at ≡ i * rowLong) × (rising place (recordsAt count r) ≡ rising place (recordsFrom count r i at))
+Inv-loop r count i₀ at₀ i at =
+    (i ≤ count) × (at ≡ i * rowLong) × (rising place (recordsAt count r) ≡ rising place (recordsFrom count r i at))
 
 abbrev μ-loop : tie.MeasureT-loop
 μ-loop r count i₀ at₀ i at = count - i
@@ -25,13 +27,19 @@ returns : tie.Need-returns Inv-loop μ-loop
 returns c =
     let l = c .before .before .before .before .before in
     let s = l .before .before .args in
-    sym (l .loop .inv .2 ∙ rising-off (s .count) (s .r .now) (l .loop .i) (l .loop .at) (omega arith) (sym (c .before .stands-before .ensures) ∙ not-true _ (c .if1 .taken)))
+    sym (l .loop .inv .2 ∙ rising-off (s .count) (s .r .now) (l .loop .i) (l .loop .at) (omega arith)
+    (sym (c .before .stands-before .ensures) ∙ not-true _ (c .if1 .taken)))
 
 loop-again : tie.Need-loop-again Inv-loop μ-loop
 loop-again c =
     let l = c .before .before .before .before .before in
-    let s = l .before .before .args in
-    (omega arith, omega arith, l .loop .inv .2 ∙ rising-on (s .count) (s .r .now) (l .loop .i) (l .loop .at) (omega arith) (sym (c .before .stands-before .ensures) ∙ not-false _ (c .if1 .left)))
+    let s = l .before .before .args in (
+      omega arith,
+      omega arith,
+      l .loop .inv .2
+          ∙ rising-on (s .count) (s .r .now) (l .loop .i) (l .loop .at) (omega arith)
+          (sym (c .before .stands-before .ensures) ∙ not-false _ (c .if1 .left)),
+    )
 
 returns-2 : tie.Need-returns-2 Inv-loop μ-loop
 returns-2 c =

@@ -27,7 +27,12 @@ unfolding recordFits
 returns-4 c =
     let t = c .before .before .before .before .before .before .before in
     let h = rw (c .before .before .before .part-at .ensures) at (c .before .before .if3 .left) in
-    c .fits2 .ensures ∙ simp (lt-ltb _ _ (t .before .before .if1 .left), le-leb _ _ (t .if2 .left), lt-ltb _ _ h, and-true)
+    c .fits2 .ensures ∙ simp (
+      lt-ltb _ _ (t .before .before .if1 .left),
+      le-leb _ _ (t .if2 .left),
+      lt-ltb _ _ h,
+      and-true,
+    )
 
 pub row-fits-spec : {M : Type 1} → statement M
 row-fits-spec =

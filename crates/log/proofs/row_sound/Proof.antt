@@ -12,15 +12,22 @@ use borrow.Author.Needs.{needs}
 use Rattle.log.proofs.row_sound.Statement.{statement}
 use Rattle.log.proofs.row_sound.Tie as tie
 
-known : (c : tie.Else1) → isKnown (c .before .before .before .before .before .before .args .known .now) (recordAt (c .before .before .before .before .before .before .args .row .now)) ≡ true
+known :
+    (c : tie.Else1)
+    → (let s = c .before .before .before .before .before .before .before .args in
+    isKnown (s .known .now) (recordAt (s .row .now)) ≡ true)
 known c = sym (c .before .is-known .ensures) ∙ not-false _ (c .if1 .left)
 
-fitting : (c : tie.Else2) → recordFits (λ _. true) (c .before .before .before .before .before .before .before .before .args .n) (recordAt (c .before .before .before .before .before .before .before .before .args .row .now)) ≡ true
+fitting :
+    (c : tie.Else2)
+    → (let s = c .before .before .before .before .before .before .before .before .before .args in
+    recordFits (λ _. true) (s .n) (recordAt (s .row .now)) ≡ true)
 fitting c = sym (c .before .row-fits .ensures) ∙ not-false _ (c .if2 .left)
 
 staying :
     (c : tie.Else3)
-    → (let s = c .before .before .before .before .before .before .before .before .before .before .args in goesBy (s .known .now) (s .low .now) (recordAt (s .row .now)) ≡ false)
+    → (let s = c .before .before .before .before .before .before .before .before .before .before .before .args in
+    goesBy (s .ready .now) (s .low .now) (recordAt (s .row .now)) ≡ false)
 staying c = sym (c .before .goes .ensures) ∙ c .if3 .left
 
 returns : tie.Need-returns
@@ -58,10 +65,16 @@ unfolding rowSound
 returns-5 c =
     let t = c .before .before .before in
     let u = t .before .before in
-    let s = u .before .before .before .before .before .before .before .before .args in
+    let s = u .before .before .before .before .before .before .before .before .before .args in
     let o = obeys (λ _. true) (s .n) (recordAt (s .row .now)) (subst T (sym (fitting u)) tt) in
     let a = sym (c .before .before .is-applied .ensures) ∙ not-false _ (c .before .if4 .left) in
-    rw (known (u .before .before), fitting u, staying t, a, stamp-covered (s .value .now) (recordAt (s .row .now)) (o .label-lt)) (c .is-applied2 .ensures)
+    rw (
+      known (u .before .before),
+      fitting u,
+      staying t,
+      a,
+      stamp-covered (s .value .now) (recordAt (s .row .now)) (o .label-lt),
+    ) (c .is-applied2 .ensures)
 
 pub row-sound-spec : {M : Type 1} → statement M
 row-sound-spec =

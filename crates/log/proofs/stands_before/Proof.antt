@@ -16,7 +16,8 @@ returns-3 : tie.Need-returns-3
 returns-3 c =
     let t = c .before .before in
     let s = t .before .before .before .before .before .before .args in
-    before-number _ _ (getD (s .a .now) 1 0) (getD (s .b .now) 1 0) (t .before .before .before .if1 .left) (t .if2 .left)
+    before-number _ _ (getD (s .a .now) 1 0) (getD (s .b .now) 1 0) (t .before .before .before .if1 .left)
+    (t .if2 .left)
 
 pub stands-before-spec : {M : Type 1} → statement M
 stands-before-spec =

@@ -10,7 +10,8 @@ returns c =
     let o = c .before .before .before .before in
     let e = o .before .before .before in
     let s = e .before .before .before .before .args in
-    message-opens (s .book .now) (s .msg .now) (s .out .now) (s .opened) (not-true _ (e .if1 .taken)) _ _ _ (o .open-turn .ensures)
+    message-opens (s .book .now) (s .msg .now) (s .out .now) (s .opened) (not-true _ (e .if1 .taken)) _ _ _
+    (o .open-turn .ensures)
 
 returns-2 : tie.Need-returns-2
 returns-2 c =
@@ -18,7 +19,8 @@ returns-2 c =
     let e = a .before .before .before in
     let s = e .before .before .before .before in
     let w = s .args in
-    message-replies (w .book .now) (w .msg .now) (w .out .now) (w .opened) (not-false _ (e .if1 .left)) (s .pre) _ _ _ (a .answer .ensures)
+    message-replies (w .book .now) (w .msg .now) (w .out .now) (w .opened) (not-false _ (e .if1 .left)) (s .pre) _ _ _
+    (a .answer .ensures)
 
 pub message-turn-spec : {M : Type 1} → statement M
 message-turn-spec =

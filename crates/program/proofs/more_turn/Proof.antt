@@ -19,7 +19,8 @@ returns-2 : tie.Need-returns-2
 returns-2 c =
     let e = c .before .before in
     let s = entry e .args in
-    more-stops (s .book .now) (s .read .now) (s .ended) (s .opened) (s .n) (s .out .now) (not-false _ (e .if1 .left)) (sym (c .before .is-between .ensures) ∙ c .if2 .taken)
+    more-stops (s .book .now) (s .read .now) (s .ended) (s .opened) (s .n) (s .out .now) (not-false _ (e .if1 .left))
+    (sym (c .before .is-between .ensures) ∙ c .if2 .taken)
 
 last-refusal-requires : tie.Need-last-refusal-requires
 last-refusal-requires c κs = (one-says, entry (c .before .before .before) .pre)
@@ -30,8 +31,10 @@ returns-3 c =
     let t = r .before .before in
     let e = t .before .before in
     let s = entry e .args in
-    more-breaks (s .book .now) (s .read .now) (s .ended) (s .opened) (s .n) (s .out .now) (not-false _ (e .if1 .left)) (sym (t .before .is-between .ensures) ∙ t .if2 .left)
+    more-breaks (s .book .now) (s .read .now) (s .ended) (s .opened) (s .n) (s .out .now) (not-false _ (e .if1 .left))
+    (sym (t .before .is-between .ensures) ∙ t .if2 .left)
     _ _ (r .last-refusal .ensures .0) (r .last-refusal .ensures .1)
 
 pub more-turn-spec : {M : Type 1} → statement M
-more-turn-spec = tie.close (tie.spec returns (λ c κs. search needs) returns-2 last-refusal-requires (λ c. search needs) returns-3)
+more-turn-spec = tie.close
+    (tie.spec returns (λ c κs. search needs) returns-2 last-refusal-requires (λ c. search needs) returns-3)

@@ -28,7 +28,8 @@ returns c =
     let k = m .before .before .before .before in
     let f = k .before .before in
     let s = entry f .args in
-    turn-owes (s .book .now) (s .read .now) (s .ended) (s .opened) (s .out .now) _ (sym (k .frame .given .1) ∙ f .next-in .ensures) _ _ _ (m .more-turn .ensures)
+    turn-owes (s .book .now) (s .read .now) (s .ended) (s .opened) (s .out .now) _
+    (sym (k .frame .given .1) ∙ f .next-in .ensures) _ _ _ (m .more-turn .ensures)
 
 returns-2 : tie.Need-returns-2
 returns-2 c =
@@ -38,8 +39,10 @@ returns-2 c =
     let s = entry f .args in
     let n = k .frame2 .given .0 .0 in
     let front : n - 0 ≡ n = omega arith in
-    turn-owes (s .book .now) (s .read .now) (s .ended) (s .opened) (s .out .now) _ (sym (k .frame2 .given .1) ∙ f .next-in .ensures) _ _ _
-    (message-part (s .book .now) (s .read .now) (s .opened) (s .out .now) n (n - 0) front _ _ _ (m .message-turn .ensures))
+    turn-owes (s .book .now) (s .read .now) (s .ended) (s .opened) (s .out .now) _
+    (sym (k .frame2 .given .1) ∙ f .next-in .ensures) _ _ _
+    (message-part (s .book .now) (s .read .now) (s .opened) (s .out .now) n (n - 0) front _ _ _
+    (m .message-turn .ensures))
 
 returns-3 : tie.Need-returns-3
 returns-3 c =
@@ -47,7 +50,8 @@ returns-3 c =
     let k = r .before .before in
     let f = k .before .before in
     let s = entry f .args in
-    turn-owes (s .book .now) (s .read .now) (s .ended) (s .opened) (s .out .now) _ (sym (k .enum-told .given .1) ∙ f .next-in .ensures) _ _ _
+    turn-owes (s .book .now) (s .read .now) (s .ended) (s .opened) (s .out .now) _
+    (sym (k .enum-told .given .1) ∙ f .next-in .ensures) _ _ _
     (last-owes (s .book .now) bad (s .out .now) _ _ (r .last-refusal .ensures .0) (r .last-refusal .ensures .1))
 
 pub next-turn-spec : {M : Type 1} → statement M

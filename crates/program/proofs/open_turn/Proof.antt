@@ -12,8 +12,11 @@ last-refusal-requires : tie.Need-last-refusal-requires
 last-refusal-requires c κs =
     let o = c .before .before .before .before .before .before in
     let s = entry o in
-    let w = s .args in
-    (opening-says (w .book .now) (w .msg .now) _ _ (o .open-from .ensures) (w .out .now) _ (c .before .before .opening .given .1), s .pre)
+    let w = s .args in (
+      opening-says (w .book .now) (w .msg .now) _ _ (o .open-from .ensures) (w .out .now) _
+          (c .before .before .opening .given .1),
+      s .pre,
+    )
 
 returns : tie.Need-returns
 returns c =

@@ -36,7 +36,8 @@ returns c =
     let s = u .before .before in
     let ss = standingsAt (s .args .r .now) in
     let t = tapOf (s .args .w) in
-    let same : standingWords (set ss (u .unpack .result .prompt) (n .noted .result)) ≡ standingWords (notedAt t ss) = rw (n .noted .ensures, a .standing-at .ensures, u .unpack .ensures) in
+    let same : standingWords (set ss (u .unpack .result .prompt) (n .noted .result))
+    ≡ standingWords (notedAt t ss) = rw (n .noted .ensures, a .standing-at .ensures, u .unpack .ensures) in
     let e = p .put-standing .ensures ∙ same in
     (e, ap length e ∙ length-words (notedAt t ss) (length-noted t ss ∙ length-standings (s .args .r .now)))
 

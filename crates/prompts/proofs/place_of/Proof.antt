@@ -1,6 +1,6 @@
 -- `prompts::place_of` meets its contract. Assumes nothing.
-use Rattle.tally.specs.Limits.{promptCount}
 use borrow.Author.Needs.{needs}
+use Rattle.limits.specs.Limits.{promptCount}
 use Rattle.prompts.proofs.place_of.Statement.{statement}
 use Rattle.prompts.proofs.place_of.Tie as tie
 

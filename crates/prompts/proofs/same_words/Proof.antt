@@ -1,4 +1,5 @@
--- `prompts::same_words` meets its contract. The invariant: what the words from i on decide is what all decide. Assumes nothing.
+-- `prompts::same_words` meets its contract. The invariant: what the words from i on decide is what all decide. Assumes
+-- nothing.
 use Prim.Native.Nat.{_-_, _≤_}
 use native.Mathlib.Omega.{arith}
 use mathlib.Core.Path.{_≡_, sym, _∙_}

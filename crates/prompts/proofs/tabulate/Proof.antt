@@ -9,7 +9,7 @@ use Rattle.tally.specs.Standing.{CountsFit, blank}
 use Rattle.tally.specs.StandingLaws.{afresh-length}
 use Rattle.tally.specs.Tap.{tapOf}
 use Rattle.tally.specs.declared.Standing.{Standing}
-use Rattle.counted.specs.Region.{tapsAt}
+use Rattle.taps.specs.Region.{tapsAt}
 use Rattle.prompts.specs.Region.{promptWords, standingsAt, standingWords, notedAt}
 use Rattle.prompts.specs.RegionLaws.{prompt-word, standings-noted}
 use Rattle.prompts.proofs.Turn.{restAfresh, noted-end, noted-more, noted-fits}
@@ -34,8 +34,12 @@ note-requires c κs =
     let l = c .before .before .before in
     let s = l .before .before .before in
     let taps = s .args .taps .now in
-    let w = getD taps (l .loop .i - 1) 0 in
-    (l .loop .inv .1, subst (λ (ss : List Standing). CountsFit (getD ss (tapOf w .prompt) blank)) (sym (l .loop .inv .2)) (noted-fits taps (s .args .n) (l .loop .i) (omega arith) (tapOf w .prompt) (prompt-word w) (omega arith)))
+    let w = getD taps (l .loop .i - 1) 0 in (
+      l .loop .inv .1,
+      subst (λ (ss : List Standing). CountsFit (getD ss (tapOf w .prompt) blank))
+          (sym (l .loop .inv .2)) (noted-fits taps (s .args .n) (l .loop .i) (omega arith) (tapOf w .prompt)
+          (prompt-word w) (omega arith)),
+    )
 
 loop-again : tie.Need-loop-again Inv-loop μ-loop
 loop-again c =
@@ -47,8 +51,14 @@ loop-again c =
     let j = l .loop .i - 1 in
     let e : j + 1 ≡ l .loop .i = omega arith in
     let t = tapOf (getD taps j 0) in
-    let was = m .note .ensures .0 ∙ ap (λ (ss : List Standing). standingWords (notedAt t ss)) (l .loop .inv .2) in
-    (omega arith, m .note .ensures .1, ap standingsAt was ∙ standings-noted t (restAfresh taps n (l .loop .i)) (afresh-length (map tapOf (drop (l .loop .i) (take n taps)))) ∙ sym (rw e at (noted-more taps n j (omega arith) (omega arith))))
+    let was = m .note .ensures .0 ∙ ap (λ (ss : List Standing). standingWords (notedAt t ss)) (l .loop .inv .2) in (
+      omega arith,
+      m .note .ensures .1,
+      ap standingsAt was
+          ∙ standings-noted t (restAfresh taps n (l .loop .i))
+          (afresh-length (map tapOf (drop (l .loop .i) (take n taps))))
+          ∙ sym (rw e at (noted-more taps n j (omega arith) (omega arith))),
+    )
 
 returns : tie.Need-returns Inv-loop μ-loop
 unfolding tapsAt

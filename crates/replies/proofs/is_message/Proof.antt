@@ -11,7 +11,8 @@ use Rattle.replies.proofs.is_message.Statement.{statement}
 use Rattle.replies.proofs.is_message.Tie as tie
 
 -- the answers but the last, which is the refusal
-other : (v : Said) → OneOf (numbers 0 12) (denote.Enum.Declared.tagOf Rattle.wire.proofs.Said.the-type v) → true ≡ isMessage v
+other : (v : Said) → OneOf (numbers 0 12) (denote.Enum.Declared.tagOf Rattle.wire.proofs.Said.the-type v)
+    → true ≡ isMessage v
 unfolding isMessage
 other (said.Head sender screens count stamp) h = refl
 other (said.Record origin number label tap) h = refl

@@ -18,11 +18,14 @@ returns c = not-shaped gossipTakenKind _ (failed (c .before .is-kind .ensures) (
 
 read-fields-requires : tie.Need-read-fields-requires
 unfolding bodyOf
-read-fields-requires c κs = let e = c .before .before in (refl, (omega (arith, shaped-long 10 4 (e .before .before .before .args .msg .now) refl (shape e)), tt))
+read-fields-requires c κs =
+    let e = c .before .before in
+    (refl, (omega (arith, shaped-long 10 4 (e .before .before .before .args .msg .now) refl (shape e)), tt))
 
 returns-2 : tie.Need-returns-2
 unfolding gossipTakenKind lineOf
-returns-2 c = let r = c .before in kept gossipTakenKind _ _ (shape (r .before .before .before)) (r .read-fields .ensures) refl
+returns-2 c = let r = c .before in
+    kept gossipTakenKind _ _ (shape (r .before .before .before)) (r .read-fields .ensures) refl
 
 pub read-gossip-taken-spec : {M : Type 1} → statement M
 read-gossip-taken-spec =

@@ -18,15 +18,21 @@ returns c = not-shaped refusalKind _ (failed (c .before .is-kind .ensures) (c .i
 
 read-fields-requires : tie.Need-read-fields-requires
 unfolding bodyOf
-read-fields-requires c κs = let e = c .before .before in (refl, (omega (arith, shaped-long 9 1 (e .before .before .before .args .msg .now) refl (shape e)), tt))
+read-fields-requires c κs =
+    let e = c .before .before in
+    (refl, (omega (arith, shaped-long 9 1 (e .before .before .before .args .msg .now) refl (shape e)), tt))
 
 returns-2 : tie.Need-returns-2
 unfolding refusalKind lineOf
-returns-2 c = let r = c .before .before .before in not-kept refusalKind _ _ (shape (r .before .before .before)) (r .read-fields .ensures) (failed (c .before .in-table .ensures) (c .if2 .taken))
+returns-2 c = let r = c .before .before .before in
+    not-kept refusalKind _ _ (shape (r .before .before .before)) (r .read-fields .ensures)
+    (failed (c .before .in-table .ensures) (c .if2 .taken))
 
 returns-3 : tie.Need-returns-3
 unfolding refusalKind lineOf
-returns-3 c = let r = c .before .before .before in kept refusalKind _ _ (shape (r .before .before .before)) (r .read-fields .ensures) (passed (c .before .in-table .ensures) (c .if2 .left))
+returns-3 c = let r = c .before .before .before in
+    kept refusalKind _ _ (shape (r .before .before .before)) (r .read-fields .ensures)
+    (passed (c .before .in-table .ensures) (c .if2 .left))
 
 pub read-refusal-spec : {M : Type 1} → statement M
 read-refusal-spec =

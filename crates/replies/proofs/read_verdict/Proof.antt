@@ -2,14 +2,15 @@
 use mathlib.Core.Path.{_≡_, refl}
 use mathlib.Core.Bool.{true}
 use native.Mathlib.Omega.{arith}
-use Rattle.wire.specs.Kinds.{shaped, bodyOf, verdictKind}
+use Rattle.stamp.specs.Stamp.{total}
+use Rattle.wire.specs.Kinds.{shaped, bodyOf, verdictNumber, verdictBody, verdictKind}
 use Rattle.wire.specs.Read.{lineOf}
 use Rattle.wire.specs.Returns.{failed, passed, shaped-long, not-shaped, not-kept, kept}
 use borrow.Author.Needs.{needs}
 use Rattle.replies.proofs.read_verdict.Statement.{statement}
 use Rattle.replies.proofs.read_verdict.Tie as tie
 
-shape : (c : tie.Else1) → shaped 7 (c .before .before .before .args .msg .now) ≡ true
+shape : (c : tie.Else1) → shaped verdictNumber (c .before .before .before .args .msg .now) ≡ true
 shape c = passed (c .before .is-kind .ensures) (c .if1 .left)
 
 returns : tie.Need-returns
@@ -18,18 +19,29 @@ returns c = not-shaped verdictKind _ (failed (c .before .is-kind .ensures) (c .i
 
 read-fields-requires : tie.Need-read-fields-requires
 unfolding bodyOf
-read-fields-requires c κs = let e = c .before .before in (refl, (omega (arith, shaped-long 7 43 (e .before .before .before .args .msg .now) refl (shape e)), tt))
+read-fields-requires c κs =
+    let w = c .before .before in
+    let bytes = w .before .before .before .before .args .msg .now in
+    let long = shaped-long verdictNumber (total verdictBody) bytes refl (shape (w .before)) in
+    rw (w .verdict-widths .ensures) (refl, (omega (arith, long), tt))
 
 returns-2 : tie.Need-returns-2
 unfolding verdictKind lineOf
-returns-2 c = let r = c .before .before .before in not-kept verdictKind _ _ (shape (r .before .before .before)) (r .read-fields .ensures) (failed (c .before .verdict-fits .ensures) (c .if2 .taken))
+returns-2 c =
+    let r = c .before .before .before in
+    let w = r .before .before .before in
+    not-kept verdictKind _ _ (shape (w .before)) (rw (w .verdict-widths .ensures) at (r .read-fields .ensures))
+    (failed (c .before .verdict-fits .ensures) (c .if2 .taken))
 
 returns-3 : tie.Need-returns-3
 unfolding verdictKind lineOf
 returns-3 c =
-    let r = c .before .before .before .before .before in
     let v = c .before .before in
-    rw (c .parts-at .ensures) (kept verdictKind _ _ (shape (r .before .before .before)) (r .read-fields .ensures) (passed (v .before .verdict-fits .ensures) (v .if2 .left)))
+    let r = v .before .before .before in
+    let w = r .before .before .before in
+    rw (c .parts-at .ensures)
+    (kept verdictKind _ _ (shape (w .before)) (rw (w .verdict-widths .ensures) at (r .read-fields .ensures))
+    (passed (v .before .verdict-fits .ensures) (v .if2 .left)))
 
 pub read-verdict-spec : {M : Type 1} → statement M
 read-verdict-spec =
@@ -37,6 +49,7 @@ read-verdict-spec =
     (tie.spec
     (λ c κs. search needs)
     returns
+    (λ c κs. search needs)
     (λ c. search needs)
     (λ c. search needs)
     read-fields-requires

@@ -2,14 +2,14 @@
 use mathlib.Core.Path.{_≡_, refl}
 use mathlib.Core.Bool.{true}
 use native.Mathlib.Omega.{arith}
-use Rattle.wire.specs.Kinds.{shaped, bodyOf, waitKind}
+use Rattle.wire.specs.Kinds.{shaped, bodyOf, waitNumber, bitsWidth, waitKind}
 use Rattle.wire.specs.Read.{lineOf}
 use Rattle.wire.specs.Returns.{failed, passed, shaped-long, not-shaped, kept}
 use borrow.Author.Needs.{needs}
 use Rattle.replies.proofs.read_wait.Statement.{statement}
 use Rattle.replies.proofs.read_wait.Tie as tie
 
-shape : (c : tie.Else1) → shaped 8 (c .before .before .before .args .msg .now) ≡ true
+shape : (c : tie.Else1) → shaped waitNumber (c .before .before .before .args .msg .now) ≡ true
 shape c = passed (c .before .is-kind .ensures) (c .if1 .left)
 
 returns : tie.Need-returns
@@ -18,7 +18,10 @@ returns c = not-shaped waitKind _ (failed (c .before .is-kind .ensures) (c .if1 
 
 read-fields-requires : tie.Need-read-fields-requires
 unfolding bodyOf
-read-fields-requires c κs = let e = c .before .before in (refl, (omega (arith, shaped-long 8 1 (e .before .before .before .args .msg .now) refl (shape e)), tt))
+read-fields-requires c κs =
+    let e = c .before .before in
+    let long = shaped-long waitNumber bitsWidth (e .before .before .before .args .msg .now) refl (shape e) in
+    (refl, (omega (arith, long), tt))
 
 returns-2 : tie.Need-returns-2
 unfolding waitKind lineOf

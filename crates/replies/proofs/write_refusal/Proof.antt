@@ -12,7 +12,9 @@ returns c = broken refusalKind _ _ refl (failed (c .before .in-table .ensures) (
 
 returns-2 : tie.Need-returns-2
 unfolding refusalKind
-returns-2 c = let r = c .before .before .before .before .before .before in put refusalKind _ _ refl _ _ (passed (r .before .in-table .ensures) (r .if1 .left)) (c .before .before .put-line .ensures)
+returns-2 c = let r = c .before .before .before .before .before .before in
+    put refusalKind _ _ refl _ _ (passed (r .before .in-table .ensures) (r .if1 .left))
+    (c .before .before .put-line .ensures)
 
 pub write-refusal-spec : {M : Type 1} → statement M
 write-refusal-spec =

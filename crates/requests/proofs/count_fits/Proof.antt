@@ -2,17 +2,17 @@
 use mathlib.Core.Path.{sym}
 use native.Mathlib.Omega.{arith}
 use borrow.Author.Tests.{le-leb, lt-leb}
-use Rattle.ledger.specs.Limits.{logRoom}
+use Rattle.limits.specs.Limits.{logRoom}
 use Rattle.requests.proofs.count_fits.Statement.{statement}
 use Rattle.requests.proofs.count_fits.Tie as tie
 
 returns : tie.Need-returns
 unfolding logRoom
-returns c = sym (le-leb (c .before .args .count) 256 (omega arith))
+returns c = sym (le-leb (c .before .args .count) logRoom (omega arith))
 
 returns-2 : tie.Need-returns-2
 unfolding logRoom
-returns-2 c = sym (lt-leb (c .before .args .count) 256 (omega arith))
+returns-2 c = sym (lt-leb (c .before .args .count) logRoom (omega arith))
 
 pub count-fits-spec : {M : Type 1} → statement M
 count-fits-spec = tie.close (tie.spec returns returns-2)

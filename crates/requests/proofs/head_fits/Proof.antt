@@ -12,14 +12,16 @@ returns c = rw (failed (c .before .in-range .ensures) (c .if1 .taken))
 
 returns-2 : tie.Need-returns-2
 unfolding headKind partsAt listOf
-returns-2 c = let r = c .before .before in rw (passed (r .before .in-range .ensures) (r .if1 .left), failed (c .before .count-fits .ensures) (c .if2 .taken))
+returns-2 c = let r = c .before .before in
+    rw (passed (r .before .in-range .ensures) (r .if1 .left), failed (c .before .count-fits .ensures) (c .if2 .taken))
 
 returns-3 : tie.Need-returns-3
 unfolding headKind partsAt listOf
 returns-3 c =
     let n = c .before in
     let r = n .before .before in
-    rw (passed (r .before .in-range .ensures) (r .if1 .left), passed (n .before .count-fits .ensures) (n .if2 .left)) (c .parts-fit .ensures)
+    rw (passed (r .before .in-range .ensures) (r .if1 .left), passed (n .before .count-fits .ensures) (n .if2 .left))
+    (c .parts-fit .ensures)
 
 pub head-fits-spec : {M : Type 1} → statement M
 head-fits-spec =

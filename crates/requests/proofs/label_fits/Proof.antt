@@ -12,19 +12,29 @@ returns : tie.Need-returns
 returns c = let s = c .before .args in rw (le-ltb (s .origin) (s .n) (c .if1 .taken))
 
 returns-2 : tie.Need-returns-2
-returns-2 c = let s = c .before .before .args in rw (lt-ltb (s .origin) (s .n) (c .before .if1 .left), lt-leb 1 (s .number) (c .if2 .taken))
+returns-2 c = let s = c .before .before .args in
+    rw (lt-ltb (s .origin) (s .n) (c .before .if1 .left), lt-leb 1 (s .number) (c .if2 .taken))
 
 returns-3 : tie.Need-returns-3
 returns-3 c =
     let r = c .before .before in
     let s = r .before .before .args in
-    rw (lt-ltb (s .origin) (s .n) (r .before .if1 .left), le-leb 1 (s .number) (r .if2 .left), le-ltb (part (listOf (s .label)) (s .origin)) (s .number) (omega (arith, c .before .part-of .ensures)))
+    rw (
+      lt-ltb (s .origin) (s .n) (r .before .if1 .left),
+      le-leb 1 (s .number) (r .if2 .left),
+      le-ltb (part (listOf (s .label)) (s .origin)) (s .number) (omega (arith, c .before .part-of .ensures)),
+    )
 
 returns-4 : tie.Need-returns-4
 returns-4 c =
     let r = c .before .before .before in
     let s = r .before .before .args in
-    rw (lt-ltb (s .origin) (s .n) (r .before .if1 .left), le-leb 1 (s .number) (r .if2 .left), lt-ltb (part (listOf (s .label)) (s .origin)) (s .number) (omega (arith, c .before .before .part-of .ensures)), and-true) (c .parts-fit .ensures)
+    rw (
+      lt-ltb (s .origin) (s .n) (r .before .if1 .left),
+      le-leb 1 (s .number) (r .if2 .left),
+      lt-ltb (part (listOf (s .label)) (s .origin)) (s .number) (omega (arith, c .before .before .part-of .ensures)),
+      and-true,
+    ) (c .parts-fit .ensures)
 
 pub label-fits-spec : {M : Type 1} → statement M
 label-fits-spec =

@@ -3,14 +3,15 @@ use mathlib.Core.Path.{_≡_, refl}
 use mathlib.Core.Bool.{true}
 use native.Mathlib.Omega.{arith}
 use Rattle.stamp.specs.Parts.{listOf, partsAt}
-use Rattle.wire.specs.Kinds.{shaped, bodyOf, headKind}
+use Rattle.stamp.specs.Stamp.{total}
+use Rattle.wire.specs.Kinds.{shaped, bodyOf, headNumber, headBody, headKind}
 use Rattle.wire.specs.Read.{lineOf}
 use Rattle.wire.specs.Returns.{failed, passed, shaped-long, not-shaped, not-kept, kept}
 use borrow.Author.Needs.{needs}
 use Rattle.requests.proofs.read_head.Statement.{statement}
 use Rattle.requests.proofs.read_head.Tie as tie
 
-shape : (c : tie.Else1) → shaped 1 (c .before .before .before .args .msg .now) ≡ true
+shape : (c : tie.Else1) → shaped headNumber (c .before .before .before .args .msg .now) ≡ true
 shape c = passed (c .before .is-kind .ensures) (c .if1 .left)
 
 returns : tie.Need-returns
@@ -19,19 +20,30 @@ returns c = not-shaped headKind _ (failed (c .before .is-kind .ensures) (c .if1 
 
 read-fields-requires : tie.Need-read-fields-requires
 unfolding bodyOf
-read-fields-requires c κs = let e = c .before .before in (refl, (omega (arith, shaped-long 1 36 (e .before .before .before .args .msg .now) refl (shape e)), tt))
+read-fields-requires c κs =
+    let w = c .before .before in
+    let bytes = w .before .before .before .before .args .msg .now in
+    let long = shaped-long headNumber (total headBody) bytes refl (shape (w .before)) in
+    rw (w .head-widths .ensures) (refl, (omega (arith, long), tt))
 
 returns-2 : tie.Need-returns-2
 unfolding headKind lineOf partsAt listOf
 returns-2 c =
-    let r = c .before .before .before .before .before in
-    not-kept headKind _ _ (shape (r .before .before .before)) (r .read-fields .ensures) (rw (c .before .before .parts-at .ensures) at (failed (c .before .head-fits .ensures) (c .if2 .taken)))
+    let a = c .before .before in
+    let r = a .before .before .before in
+    let w = r .before .before .before in
+    not-kept headKind _ _ (shape (w .before)) (rw (w .head-widths .ensures) at (r .read-fields .ensures))
+    (rw (a .parts-at .ensures) at (failed (c .before .head-fits .ensures) (c .if2 .taken)))
 
 returns-3 : tie.Need-returns-3
 unfolding headKind lineOf partsAt listOf
 returns-3 c =
-    let r = c .before .before .before .before .before in
-    rw (c .before .before .parts-at .ensures) (kept headKind _ _ (shape (r .before .before .before)) (r .read-fields .ensures) (rw (c .before .before .parts-at .ensures) at (passed (c .before .head-fits .ensures) (c .if2 .left))))
+    let a = c .before .before in
+    let r = a .before .before .before in
+    let w = r .before .before .before in
+    rw (a .parts-at .ensures)
+    (kept headKind _ _ (shape (w .before)) (rw (w .head-widths .ensures) at (r .read-fields .ensures))
+    (rw (a .parts-at .ensures) at (passed (c .before .head-fits .ensures) (c .if2 .left))))
 
 pub read-head-spec : {M : Type 1} → statement M
 read-head-spec =
@@ -39,6 +51,7 @@ read-head-spec =
     (tie.spec
     (λ c κs. search needs)
     returns
+    (λ c κs. search needs)
     (λ c. search needs)
     (λ c. search needs)
     read-fields-requires

@@ -18,7 +18,9 @@ returns c = not-shaped openKind _ (failed (c .before .is-kind .ensures) (c .if1 
 
 read-fields-requires : tie.Need-read-fields-requires
 unfolding bodyOf
-read-fields-requires c κs = let e = c .before .before in (refl, (omega (arith, shaped-long 11 2 (e .before .before .before .args .msg .now) refl (shape e)), tt))
+read-fields-requires c κs =
+    let e = c .before .before in
+    (refl, (omega (arith, shaped-long 11 2 (e .before .before .before .args .msg .now) refl (shape e)), tt))
 
 returns-2 : tie.Need-returns-2
 unfolding openKind lineOf

@@ -13,7 +13,8 @@ returns c = not-shaped sendKind _ (failed (c .before .is-kind .ensures) (c .if1 
 
 returns-2 : tie.Need-returns-2
 unfolding sendKind
-returns-2 c = let msg = c .before .before .before .args .msg .now in kept sendKind msg (lineOf sendKind msg) (passed (c .before .is-kind .ensures) (c .if1 .left)) refl refl
+returns-2 c = let msg = c .before .before .before .args .msg .now in
+    kept sendKind msg (lineOf sendKind msg) (passed (c .before .is-kind .ensures) (c .if1 .left)) refl refl
 
 pub read-send-spec : {M : Type 1} → statement M
 read-send-spec = tie.close (tie.spec (λ c κs. search needs) returns returns-2)

@@ -15,14 +15,23 @@ returns-2 : tie.Need-returns-2
 returns-2 c =
     let r = c .before .before in
     let s = r .before .before .args in
-    rw (rules-left (s .n) (s .origin) (s .number) (s .label) (s .m) (s .tap) (passed (r .before .fits2 .ensures) (r .if1 .left)), failed (c .before .label-fits .ensures) (c .if2 .taken))
+    rw (
+      rules-left (s .n) (s .origin) (s .number) (s .label) (s .m) (s .tap)
+          (passed (r .before .fits2 .ensures) (r .if1 .left)),
+      failed (c .before .label-fits .ensures) (c .if2 .taken),
+    )
 
 returns-3 : tie.Need-returns-3
 returns-3 c =
     let l = c .before in
     let r = l .before .before in
     let s = r .before .before .args in
-    rw (rules-left (s .n) (s .origin) (s .number) (s .label) (s .m) (s .tap) (passed (r .before .fits2 .ensures) (r .if1 .left)), passed (l .before .label-fits .ensures) (l .if2 .left), c .part-of .ensures)
+    rw (
+      rules-left (s .n) (s .origin) (s .number) (s .label) (s .m) (s .tap)
+          (passed (r .before .fits2 .ensures) (r .if1 .left)),
+      passed (l .before .label-fits .ensures) (l .if2 .left),
+      c .part-of .ensures,
+    )
 
 pub record-fits-spec : {M : Type 1} → statement M
 record-fits-spec =

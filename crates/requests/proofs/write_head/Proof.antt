@@ -1,5 +1,6 @@
 -- `requests::write_head` meets its contract. Assumes nothing.
 use mathlib.Core.Path.{refl}
+use Rattle.lists.specs.Part.{patch}
 use Rattle.stamp.specs.Parts.{listOf}
 use Rattle.wire.specs.Returns.{failed, passed, broken, put}
 use Rattle.wire.specs.Kinds.{headKind}
@@ -11,9 +12,17 @@ returns : tie.Need-returns
 unfolding headKind
 returns c = broken headKind _ _ refl (failed (c .before .head-fits .ensures) (c .if1 .taken))
 
+put-line-requires : tie.Need-put-line-requires
+put-line-requires c κs = rw (c .before .before .before .head-widths .ensures) refl
+
 returns-2 : tie.Need-returns-2
-unfolding headKind listOf
-returns-2 c = let r = c .before .before .before .before .before .before in put headKind _ _ refl _ _ (passed (r .before .head-fits .ensures) (r .if1 .left)) (c .before .before .put-line .ensures)
+unfolding headKind listOf patch
+returns-2 c =
+    let w = c .before .before .before .before .before .before in
+    let a = w .before .before in
+    let r = a .before .before in
+    put headKind _ _ refl _ _ (passed (r .before .head-fits .ensures) (r .if1 .left))
+    (rw (w .head-widths .ensures, a .put-parts .ensures) at (c .before .before .put-line .ensures))
 
 pub write-head-spec : {M : Type 1} → statement M
 write-head-spec =
@@ -24,6 +33,13 @@ write-head-spec =
     (λ c. search needs)
     (λ c. search needs)
     (λ c. search needs)
+    (λ c. search needs)
+    (λ c. search needs)
+    (λ c. search needs)
     (λ c κs. search needs)
+    (λ c κs. search needs)
+    (λ c. search needs)
+    (λ c. search needs)
+    put-line-requires
     (λ c. search needs)
     returns-2)

@@ -1,11 +1,9 @@
 -- `soundness::few_enough` meets its contract. Assumes nothing.
-use Rattle.stamp.specs.Limits.{parts}
 use borrow.Author.Needs.{needs}
 use Rattle.soundness.proofs.few_enough.Statement.{statement}
 use Rattle.soundness.proofs.few_enough.Tie as tie
 
 sum-requires : tie.Need-sum-requires
-unfolding parts
 sum-requires c κs = search needs
 
 returns : tie.Need-returns

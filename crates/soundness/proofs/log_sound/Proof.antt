@@ -1,11 +1,9 @@
 -- `soundness::log_sound` meets its contract: the four rules, in their order. Assumes nothing.
 use mathlib.Core.Path.{sym, subst, _∙_}
-use mathlib.Core.Bool.{and-true}
+use mathlib.Core.Bool.{and-true, and-false}
 use lib.Dec.{T}
 use borrow.Author.Tests.{not-true, not-false}
-use Rattle.log.specs.Region.{recordsAt}
 use Rattle.soundness.specs.Clauses.{logRules}
-use Rattle.soundness.proofs.Turn.{all-off}
 use borrow.Author.Needs.{needs}
 use Rattle.soundness.proofs.log_sound.Statement.{statement}
 use Rattle.soundness.proofs.log_sound.Tie as tie
@@ -19,14 +17,14 @@ returns c =
 returns-2 : tie.Need-returns-2
 unfolding logRules
 returns-2 c =
-    let s = c .before .before .before .before .before .before .before .before .args in
-    sym (all-off (logRules (s .n) (s .known .now) (s .low .now) (s .value .now) (recordsAt (s .count) (s .r .now))) 1 (sym (c .before .rows-sound .ensures) ∙ not-true _ (c .if2 .taken)))
+    let e = sym (c .before .rows-sound .ensures) ∙ not-true _ (c .if2 .taken) in
+    simp (e, and-false)
 
 returns-3 : tie.Need-returns-3
 unfolding logRules
 returns-3 c =
-    let s = c .before .before .before .before .before .before .before .before .before .before .args in
-    sym (all-off (logRules (s .n) (s .known .now) (s .low .now) (s .value .now) (recordsAt (s .count) (s .r .now))) 2 (sym (c .before .bodies-fit .ensures) ∙ not-true _ (c .if3 .taken)))
+    let e = sym (c .before .bodies-fit .ensures) ∙ not-true _ (c .if3 .taken) in
+    simp (e, and-false)
 
 all-held-requires : tie.Need-all-held-requires
 all-held-requires c κs =

@@ -6,10 +6,10 @@ use native.Mathlib.Omega.{arith}
 use lib.Dec.{T}
 use lib.ListN.{take, drop}
 use borrow.Author.Tests.{not-true, not-false}
-use Rattle.lists.specs.Facts.{all-at}
+use Rattle.lists.specs.TestLaws.{given}
 use Rattle.lists.specs.Rows.{rows}
+use Rattle.limits.specs.Limits.{parts}
 use Rattle.stamp.specs.Laws.{fits-long, fits-words}
-use Rattle.stamp.specs.Limits.{parts}
 use Rattle.soundness.specs.Clauses.{fitRules, pieceRules}
 use Rattle.soundness.proofs.Turn.{row-fits}
 use borrow.Author.Needs.{needs}
@@ -25,22 +25,24 @@ returns c =
 regions-sound-requires : tie.Need-regions-sound-requires
 unfolding fitRules
 regions-sound-requires c κs =
-    let t = c .before in
+    let t = c .before .before in
     let s = t .before .before .before .before .before .before .before in
     let a = s .args in
     let e = sym (t .before .stamps-fit .ensures) ∙ not-false _ (t .if1 .left) in
-    let f = all-at (fitRules (a .n) (rows parts (a .n) (a .table .now)) (a .value .now)) 0 (subst T (sym e) tt) in
-    let known = take (a .i * 8 + 8 - a .i * 8) (drop (a .i * 8) (a .table .now)) in
+    let rules = fitRules (a .n) (rows parts (a .n) (a .table .now)) (a .value .now) in
+    let f = given rules (subst T (sym e) tt) (λ rows-fit value-fits. rows-fit) in
+    let known = take (a .i * parts + parts - a .i * parts) (drop (a .i * parts) (a .table .now)) in
     let g = row-fits (a .i) (a .n) (a .table .now) (s .pre .0 .2) f in
-    (search needs, ((fits-long (a .n) known g, fits-words (a .n) known g), search needs))
+    let long = fits-long (a .n) known g in
+    (search needs, ((long, fits-words (a .n) known g, long), search needs))
 
 returns-2 : tie.Need-returns-2
-unfolding pieceRules parts
+unfolding pieceRules
 returns-2 c =
-    let t = c .before .before in
+    let t = c .before .before .before in
     let s = t .before .before .before .before .before .before .before .args in
     let e = sym (t .before .stamps-fit .ensures) ∙ not-false _ (t .if1 .left) in
-    let f : s .i * 8 + 8 - s .i * 8 ≡ 8 = omega arith in
+    let f : s .i * parts + parts - s .i * parts ≡ parts = omega arith in
     c .regions-sound .ensures ∙ rw (e, f, and-true)
 
 pub pieces-sound-spec : {M : Type 1} → statement M
@@ -49,6 +51,10 @@ pieces-sound-spec =
     (tie.spec
     (λ c κs. search needs)
     returns
+    (λ c. search needs)
+    (λ c. search needs)
+    (λ c. search needs)
+    (λ c. search needs)
     (λ c. search needs)
     (λ c. search needs)
     (λ c. search needs)

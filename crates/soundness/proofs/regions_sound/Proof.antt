@@ -1,14 +1,8 @@
 -- `soundness::regions_sound` meets its contract: the groups of rules, in their order. Assumes nothing.
 use mathlib.Core.Path.{sym, _∙_}
-use mathlib.Core.Bool.{and-true}
+use mathlib.Core.Bool.{and-true, and-false}
 use borrow.Author.Tests.{not-true, not-false}
-use Rattle.lists.specs.Rows.{rows}
-use Rattle.stamp.specs.Limits.{parts}
-use Rattle.log.specs.Region.{recordsAt}
-use Rattle.counted.specs.Region.{tapsAt}
-use Rattle.prompts.specs.Region.{standingsAt}
 use Rattle.soundness.specs.Clauses.{regionRules}
-use Rattle.soundness.proofs.Turn.{all-off}
 use borrow.Author.Needs.{needs}
 use Rattle.soundness.proofs.regions_sound.Statement.{statement}
 use Rattle.soundness.proofs.regions_sound.Tie as tie
@@ -22,14 +16,15 @@ returns c =
 returns-2 : tie.Need-returns-2
 unfolding regionRules
 returns-2 c =
-    let s = c .before .before .before .before .before .before .before .before .before .before .before .before .args in
-    sym (all-off (regionRules (s .n) (s .known .now) (rows parts (s .n) (s .table .now)) (s .value .now) (recordsAt (s .logged) (s .log .now)) (tapsAt (s .taps) (s .counted .now)) (standingsAt (s .prompts .now))) 1 (rw (c .before .before .before .lowest-of .ensures) at (sym (c .before .log-sound .ensures) ∙ not-true _ (c .if2 .taken))))
+    let low = c .before .before .before .lowest-of .ensures in
+    let e = rw low at (sym (c .before .log-sound .ensures) ∙ not-true _ (c .if2 .taken)) in
+    simp (e, and-false)
 
 returns-3 : tie.Need-returns-3
 unfolding regionRules
 returns-3 c =
-    let s = c .before .before .before .before .before .before .before .before .before .before .before .before .before .before .args in
-    sym (all-off (regionRules (s .n) (s .known .now) (rows parts (s .n) (s .table .now)) (s .value .now) (recordsAt (s .logged) (s .log .now)) (tapsAt (s .taps) (s .counted .now)) (standingsAt (s .prompts .now))) 2 (sym (c .before .counted-sound .ensures) ∙ not-true _ (c .if3 .taken)))
+    let e = sym (c .before .counted-sound .ensures) ∙ not-true _ (c .if3 .taken) in
+    simp (e, and-false)
 
 returns-4 : tie.Need-returns-4
 unfolding regionRules

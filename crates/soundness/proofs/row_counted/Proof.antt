@@ -2,6 +2,7 @@
 use mathlib.Core.Path.{sym, _∙_}
 use mathlib.Core.Bool.{and-true}
 use borrow.Author.Tests.{not-true, not-false}
+use Rattle.tally.specs.BodyLaws.{taps-tap}
 use Rattle.meaning.specs.Book.{countedIn}
 use borrow.Author.Needs.{needs}
 use Rattle.soundness.proofs.row_counted.Statement.{statement}
@@ -17,7 +18,7 @@ unfolding countedIn
 returns-2 c =
     let t = c .before .before in
     let e = sym (t .before .is-applied .ensures) ∙ not-false _ (t .if1 .left) in
-    c .has .ensures ∙ rw (e, and-true)
+    c .has .ensures ∙ rw (e, taps-tap, and-true)
 
 pub row-counted-spec : {M : Type 1} → statement M
 row-counted-spec =

@@ -13,7 +13,9 @@ use borrow.Author.Needs.{needs}
 use Rattle.wire.proofs.is_kind.Statement.{statement}
 use Rattle.wire.proofs.is_kind.Tie as tie
 
-never : (b : Body) (n : ℕ) → types.Run.OneOf (1 ∷ []) (denote.Enum.Declared.tagOf Rattle.wire.proofs.Body.the-type b) → isLong b n ≡ false
+never : (b : Body) (n : ℕ)
+    → types.Run.OneOf (1 ∷ []) (denote.Enum.Declared.tagOf Rattle.wire.proofs.Body.the-type b)
+    → isLong b n ≡ false
 never (Long m) n h = absurd (omega arith)
 never (Bad r) n h = refl
 
@@ -24,13 +26,17 @@ returns-2 : tie.Need-returns-2
 returns-2 c = let s = c .before .before .before .before .args in another (s .kind) (s .msg .now) (c .if2 .taken)
 
 returns-3 : tie.Need-returns-3
-returns-3 c = let b = c .before .before in let s = b .before .before .before .before .before .args in not-long (s .kind) (s .msg .now) (ap (λ x. isLong x (length (s .msg .now))) (sym (b .body-of .ensures)) ∙ never (b .body-of .result) (length (s .msg .now)) (c .before .match .keys2))
+returns-3 c = let b = c .before .before in let s = b .before .before .before .before .before .args in
+    not-long (s .kind) (s .msg .now)
+    (ap (λ x. isLong x (length (s .msg .now))) (sym (b .body-of .ensures))
+    ∙ never (b .body-of .result) (length (s .msg .now)) (c .before .match .keys2))
 
 returns-4 : tie.Need-returns-4
 returns-4 c =
     let b = c .before .before .before in
     let s = b .before .before .before .before .before .args in
-    settled (s .kind) (s .msg .now) (c .before .body .given .0 .0) (omega arith) (b .before .if2 .left) (sym (b .body-of .ensures) ∙ c .before .body .given .1)
+    settled (s .kind) (s .msg .now) (c .before .body .given .0 .0) (omega arith) (b .before .if2 .left)
+    (sym (b .body-of .ensures) ∙ c .before .body .given .1)
 
 pub is-kind-spec : {M : Type 1} → statement M
 is-kind-spec =

@@ -1,0 +1,9 @@
+pub mod With
+pub mod Words
+pub mod Lay
+pub mod Shape
+pub mod WordsLaws
+pub mod Held
+pub mod SoundWords
+pub mod Rows
+pub mod Changes

@@ -1,0 +1,4 @@
+pub mod Moves
+pub mod MovesLaws
+pub mod Ready
+pub mod InPlace

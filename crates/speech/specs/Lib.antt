@@ -1,3 +1,0 @@
-pub mod Speech
-pub mod SpeechLaws
-pub mod KindLaws
