@@ -2,9 +2,11 @@
 --     said-figures                                an answer's values are those of the message that says it
 --     say-said                                    so writing an answer is writing that message
 --     reply-long                                  a reply's bytes are as many as its kind has
---     says-put                                    a reply stands at the output's front, or 12 where the output is
+--     says-put                                    a reply stands at the output's front, or 12 where the output
+--     is
 --     shorter
---     tap-says, question-says, gossip-says        every reply of an operation can be written, whatever the words and
+--     tap-says, question-says, gossip-says        every reply of an operation can be written, whatever the
+--     words and
 --     the bytes
 --     open-says                                   and so can open's refusals
 --     tap-long, question-long, gossip-long        and how long it is at most
@@ -36,7 +38,7 @@ use Rattle.ledger.specs.Message.{Message}
 use Rattle.ledger.specs.Record.{Record, isApplied, stampOf}
 use Rattle.ledger.specs.RecordLaws.{obeys, stamp-fits}
 use Rattle.wire.specs.Requests.{tapLong, questionLong, gossipLong}
-use Rattle.wire.specs.Kinds.{size, stampBody, tapKind, questionKind, tapAt, stampAt, takenKind, alreadyKind, verdictKind, waitKind, refusalKind, gossipTakenKind, inTable}
+use Rattle.wire.specs.Kinds.{bitsWidth, size, stampBody, tapKind, questionKind, tapAt, stampAt, takenKind, alreadyKind, verdictKind, waitKind, refusalKind, gossipTakenKind, inTable}
 use Rattle.wire.specs.Laws.{length-written}
 use Rattle.wire.specs.Read.{lineOf, readable}
 use Rattle.wire.specs.Said as wire
@@ -87,7 +89,8 @@ bytes-long r t = length-written (kindOf r) (figures r) t
 pub reply-long : (r : Reply) → T (sayable r) → length (bytesFor r) ≡ longOf r
 reply-long r t = bytes-long r t ∙ kind-long r
 
--- a reply that can be said stands at the front of an output that has room for it, and 12 is given exactly where it has
+-- a reply that can be said stands at the front of an output that has room for it, and 12 is given exactly where
+-- it has
 -- not
 pub says-put : (r : Reply) (out : List ℕ) → T (sayable r) → sayOn r out ≡ putFront (bytesFor r) out
 unfolding sayOn writeAs bytesFor
@@ -105,7 +108,8 @@ within-long m r t = omega (
 )
 
 -- values in their widths: a stamp that fits a house is eight numbers of four bytes
-same-width : (w n : ℕ) (s : List ℕ) → length s ≡ n → ((k : ℕ) → part s k < 256 ^ w) → T (fieldsFit (replicate n w) s)
+same-width : (w n : ℕ) (s : List ℕ) → length s ≡ n → ((k : ℕ) → part s k < 256 ^ w)
+    → T (fieldsFit (replicate n w) s)
 same-width w zero [] e f = tt
 same-width w zero (x ∷ s) e f = absurd (omega arith)
 same-width w (suc n) [] e f = absurd (omega arith)
@@ -119,7 +123,8 @@ stamp-fields n s f = same-width 4 parts s (f .long) (f .words)
 
 say-taken : (n : ℕ) (s : Stamp) → Fits n s → T (within tapLong (taken s))
 unfolding writable figures takenKind
-say-taken n s f = both (fieldsFit stampBody s && true) true (both (fieldsFit stampBody s) true (stamp-fields n s f) tt)
+say-taken n s f = both (fieldsFit stampBody s && true) true
+    (both (fieldsFit stampBody s) true (stamp-fields n s f) tt)
     tt
 
 say-already : (n : ℕ) (s : Stamp) → Fits n s → T (within tapLong (already s))
@@ -146,12 +151,14 @@ say-verdict n v h a d s p q x y f =
     values : Bool
     values = ltb v (256 ^ 1) && (ltb h (256 ^ 2) && counts)
 
-say-wait : (bits : ℕ) → bits < 256 ^ 1 → T (within questionLong (wait bits))
+say-wait : (bits : ℕ) → bits < 256 ^ bitsWidth → T (within questionLong (wait bits))
 unfolding writable figures waitKind
-say-wait bits h = both ((ltb bits (256 ^ 1) && true) && true) true
-    (both (ltb bits (256 ^ 1) && true) true (both (ltb bits (256 ^ 1)) true (lt→ltb bits (256 ^ 1) h) tt) tt) tt
+say-wait bits h = both ((ltb bits (256 ^ bitsWidth) && true) && true) true
+    (both (ltb bits (256 ^ bitsWidth) && true) true
+    (both (ltb bits (256 ^ bitsWidth)) true (lt→ltb bits (256 ^ bitsWidth) h) tt) tt) tt
 
-say-gossiped : (new applied : ℕ) → new < 256 ^ 2 → applied < 256 ^ 2 → T (within gossipLong (gossiped new applied))
+say-gossiped : (new applied : ℕ) → new < 256 ^ 2 → applied < 256 ^ 2
+    → T (within gossipLong (gossiped new applied))
 unfolding writable figures gossipTakenKind
 say-gossiped new applied p q =
     both ((ltb new (256 ^ 2) && (ltb applied (256 ^ 2) && true)) && true) true
@@ -164,9 +171,11 @@ say-gossiped new applied p q =
 infixr 30 _next_
 data Says (p : Reply → Bool) : List (Bool × Reply) → Type 0 where
   end : Says p []
-  _next_ : {c : Bool} {q : Reply} {cs : List (Bool × Reply)} → (T c → T (p q)) → Says p cs → Says p ((c, q) ∷ cs)
+  _next_ : {c : Bool} {q : Reply} {cs : List (Bool × Reply)} → (T c → T (p q)) → Says p cs
+      → Says p ((c, q) ∷ cs)
 
-first-says : (p : Reply → Bool) {cs : List (Bool × Reply)} → Says p cs → (r : Reply) → firstOf cs ≡ some r → T (p r)
+first-says : (p : Reply → Bool) {cs : List (Bool × Reply)} → Says p cs → (r : Reply) → firstOf cs ≡ some r
+    → T (p r)
 first-says p end r e = let z : _≡_ {A = ℕ} 0 1 = cc in absurd (omega arith)
 first-says p (_next_ {c} {q} {cs} f rest) r e = go c f (λ w. first-says p rest r w) e
   where
@@ -183,12 +192,14 @@ module _ (b : Book) (s : Sound b) (t : Tap) (l : Stamp) where
       let low : r .number < word = omega (arith, s .log-known r m, known-fits b s .words (r .origin)) in
       stamp-fits (b .screens) r (o .label-fits) (o .origin-lt) (range-parts (b .me) (b .screens) (s .range)) low
 
-  first-stamp : (rs : List Record) → ((r : Record) → r ∈ rs → Fits (b .screens) (stampOf r)) → T (exists (holds t) rs)
+  first-stamp : (rs : List Record) → ((r : Record) → r ∈ rs → Fits (b .screens) (stampOf r))
+      → T (exists (holds t) rs)
       → Fits (b .screens) (firstStamp t rs)
   first-stamp [] f h = absurd h
   first-stamp (r ∷ rs) f h = go (holds t r) (λ w. first-stamp rs (λ x m. f x (there m)) w) h
     where
-      go : (c : Bool) → (T (exists (holds t) rs) → Fits (b .screens) (firstStamp t rs)) → T (c || exists (holds t) rs)
+      go : (c : Bool) → (T (exists (holds t) rs) → Fits (b .screens) (firstStamp t rs))
+          → T (c || exists (holds t) rs)
           → Fits (b .screens) (cond c (stampOf r) (firstStamp t rs))
       go true later w = f r here
       go false later w = later w
@@ -223,7 +234,8 @@ module _ (b : Book) (s : Sound b) (t : Tap) (l : Stamp) where
           → T (within tapLong r)
       stopped r n e = go (firstOf (tapStops b t l)) refl
         where
-          given : (o : Option Reply) → firstOf (tapStops b t l) ≡ o → (stopOr b (takeOut b (saidTap t) l) o) .reply ≡ r
+          given : (o : Option Reply) → firstOf (tapStops b t l) ≡ o
+              → (stopOr b (takeOut b (saidTap t) l) o) .reply ≡ r
           given o f =
               ap (λ (x : Option Reply). (stopOr b (takeOut b (saidTap t) l) x) .reply) (sym f)
               ∙ ap (λ (x : Outcome). x .reply) e
@@ -248,7 +260,7 @@ module _ (b : Book) (s : Sound b) (p : ℕ) (l : Stamp) where
   ask-stops : length l ≤ parts → Says (within questionLong) (askStops b p l)
   unfolding askStops writable figures refusalKind inTable
   ask-stops e = (λ h. tt) next (λ h. tt) next (λ h. tt)
-      next (λ h. say-wait (excess l (b .value)) (excess-few l (b .value) e)) next end
+      next (λ h. say-wait (excess l (b .value)) (omega (arith, excess-few l (b .value) e))) next end
 
   answer-within : p < promptCount → T (within questionLong (answerOf (standingAt b p) (b .value)))
   unfolding answerOf word showings
@@ -256,7 +268,8 @@ module _ (b : Book) (s : Sound b) (p : ℕ) (l : Stamp) where
       let x = standingAt b p in
       let shown : x .showing < 256 ^ 2 = omega (arith, showing-small b s p h) in
       let few : x .accepts + x .declines < word = omega (arith, standing-small b s p h) in
-      say-verdict (b .screens) (verdictOf x) (x .showing) (x .accepts) (x .declines) (b .value) (verdict-most x) shown
+      say-verdict (b .screens) (verdictOf x) (x .showing) (x .accepts) (x .declines) (b .value) (verdict-most x)
+      shown
       (omega (arith, few)) (omega (arith, few)) (fits (b .screens) (b .value) (s .value-fits))
 
   ask-within : length l ≤ parts → T (within questionLong ((ask b p l) .reply))
@@ -280,11 +293,13 @@ module _ (b : Book) (m : Message) where
   applied-few : (new : List Record) (x : Stamp) → length (nowApplied b x new) ≤ length new + length (b .log)
   unfolding nowApplied newlyApplied
   applied-few new x =
-      let few = keep-le (λ r. isApplied (nowReady b x new) r && not (isApplied (ready b) r)) (gathered new (b .log)) in
+      let few = keep-le (λ r. isApplied (nowReady b x new) r && not (isApplied (ready b) r))
+      (gathered new (b .log)) in
       omega (arith, few, put-log new (b .log) .long)
 
   gossip-counts : GossipDone b m
-      → (length (newOnes b m) < 256 ^ 2) × (length (nowApplied b (merge (known b) (m .stamp)) (newOnes b m)) < 256 ^ 2)
+      → (length (newOnes b m) < 256 ^ 2)
+      × (length (nowApplied b (merge (known b) (m .stamp)) (newOnes b m)) < 256 ^ 2)
   unfolding logRoom
   gossip-counts d = (
     omega (arith, d .room),
@@ -354,7 +369,8 @@ module _ (ws bytes : List ℕ) where
   tap-says = and-l (sayable (tapOn ws bytes .reply)) (leb (longOf (tapOn ws bytes .reply)) tapLong) tap-fine
 
   pub question-says : T (sayable (questionOn ws bytes .reply))
-  question-says = and-l (sayable (questionOn ws bytes .reply)) (leb (longOf (questionOn ws bytes .reply)) questionLong)
+  question-says = and-l (sayable (questionOn ws bytes .reply))
+      (leb (longOf (questionOn ws bytes .reply)) questionLong)
       question-fine
 
   pub gossip-says : T (sayable (gossipOn ws bytes .reply))
@@ -377,6 +393,8 @@ open-says ws i n r = go (firstOf stops) refl
     stops : List (Bool × Reply)
     stops = openStops (eqb (length ws) bookLong) i n
 
-    go : (o : Option Reply) → firstOf stops ≡ o → (openOr ws (wordsOf (fresh i n)) o) .refused ≡ some r → T (sayable r)
+    go : (o : Option Reply) → firstOf stops ≡ o → (openOr ws (wordsOf (fresh i n)) o) .refused ≡ some r
+        → T (sayable r)
     go none e f = let z : _≡_ {A = ℕ} 0 1 = cc in absurd (omega arith)
-    go (some q) e f = let z : q ≡ r = cc in subst (λ (x : Reply). T (sayable x)) z (first-passes sayable stops tt q e)
+    go (some q) e f = let z : q ≡ r = cc in
+        subst (λ (x : Reply). T (sayable x)) z (first-passes sayable stops tt q e)
