@@ -1,14 +1,13 @@
 #!/usr/bin/env python3
 """Says which lines of code, specs, proofs and pages have more than 120 columns; exit 1 if there is one.
 
-Import lines are let off, since the formatter would put one name to a line, and so are rows of tables in pages, which
-Markdown cannot break.
+Rows of tables in pages are let off: Markdown cannot break them.
 """
 import pathlib
 import sys
 
 COLUMNS = 120
-LET_OFF = ("use ", "ghost use ", "|")
+LET_OFF = "|"
 
 
 def long_lines(path):

@@ -34,7 +34,8 @@ use Rattle.open_step.specs.declared.Opening.the-variants as opened
 use Rattle.book.specs.Heard.{owes-unsound, owes-unread}
 use Rattle.answer.specs.Speech.{bytesFor, sayable, longOf, sayOn}
 use Rattle.answer.specs.SpeechLaws.{says-put, reply-long, tap-says, gossip-says}
-use Rattle.answer.specs.Answer.{Done, doneBy, sendSays, sendDone, badOn, kindIn, answerBy, Answers, openFrom, longIn}
+use Rattle.answer.specs.Answer.{Done, doneBy, sendSays, sendDone, badOn, kindIn, answerBy, Answers, openFrom}
+use Rattle.answer.specs.Answer.{longIn}
 use Rattle.answer.specs.AnswerLaws.{short, front, unsound-says}
 
 -- no bytes have kind 0

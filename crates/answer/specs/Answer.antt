@@ -2,7 +2,7 @@
 use Prim.Native.Nat.{ℕ}
 use mathlib.Core.Path.{_≡_}
 use mathlib.Core.Bool.{cond}
-use mathlib.Core.List.{List, [], _∷_, _++_}
+use mathlib.Core.List.{List, [], _∷_, _++_, map}
 use mathlib.Core.Option.{some}
 use lib.Dec.{eqb, ltb}
 use lib.ListN.{length, getD, drop}
@@ -15,7 +15,8 @@ use Rattle.message.specs.Message.{messageBytes}
 use Rattle.meaning.specs.Reply.{refusal}
 use Rattle.meaning.specs.Step.{send}
 use Rattle.lent.specs.Words.{bookLong, bookOf, lawful}
-use Rattle.promise.specs.Lent.{Lent, onBook, tapOn, questionOn, gossipOn, Opened, openOn}
+use Rattle.promise.specs.Lent.{Entry, ofGossip, ofTap, ofQuestion, Lent, onBook, tapOn, questionOn, gossipOn}
+use Rattle.promise.specs.Lent.{Opened, openOn}
 use Rattle.answer.specs.Speech.{bytesFor}
 
 -- what a message comes to: the bytes of its reply, and the words that are left
@@ -45,8 +46,7 @@ abbrev pub kindIn : List ℕ → ℕ
 kindIn bytes = getD bytes 0 0
 
 -- A line of the table of requests: the kind's number, the room that is always enough for the reply, and what bytes of
--- that kind
--- come to on a lent slice.
+-- that kind come to on a lent slice.
 pub record Line : Type 0 where
   pub number : ℕ
   pub room : ℕ
@@ -64,8 +64,17 @@ questionLine = record { number = questionNumber; room = questionLong; done = λ 
 abbrev pub sendLine : Line
 sendLine = record { number = sendNumber; room = longest; done = otherDone }
 
+-- the entries in the table's order, each with its line
+abbrev pub entries : List Entry
+entries = ofGossip ∷ ofTap ∷ ofQuestion ∷ []
+
+abbrev pub lineFor : Entry → Line
+lineFor ofGossip = gossipLine
+lineFor ofTap = tapLine
+lineFor ofQuestion = questionLine
+
 abbrev pub lines : List Line
-lines = gossipLine ∷ tapLine ∷ questionLine ∷ sendLine ∷ []
+lines = map lineFor entries ++ sendLine ∷ []
 
 -- a message is dealt with by the line of its kind; bytes of any other are no request
 abbrev pub doneIn : List Line → List ℕ → List ℕ → Done
@@ -82,8 +91,7 @@ pub record Answered : Type 0 where
   pub bytes : List ℕ
 
 -- 12 exactly where the output is shorter than the very reply, and then nothing changes; else the reply at the output's
--- front, the
--- rest of which stays
+-- front, the rest of which stays
 unfoldable pub answerBy : Done → List ℕ → List ℕ → Answered
 answerBy d ws out =
     cond (ltb (length out) (length (d .says))) (record { long = 0; words = ws; bytes = out })

@@ -20,7 +20,8 @@ use lib.ListN.{length, getD, drop}
 use Rattle.lists.specs.TestLaws.{is-true, and-l}
 use Rattle.limits.specs.LimitLaws.{log-some}
 use Rattle.limits.specs.Limits.{logRoom}
-use Rattle.wire.specs.Kinds.{refusalKind, sendKind, inTable, bodyOf, isLong, shaped, headLong, longest, recordLong, headNumber, tapNumber, questionNumber, takenNumber, gossipTakenNumber, sendNumber}
+use Rattle.wire.specs.Kinds.{refusalKind, sendKind, inTable, bodyOf, isLong, shaped, headLong, longest, recordLong}
+use Rattle.wire.specs.Kinds.{headNumber, tapNumber, questionNumber, takenNumber, gossipTakenNumber, sendNumber}
 use Rattle.wire.specs.Requests.{tapLong, questionLong, gossipLong, refusalLong}
 use Rattle.wire.specs.Read.{readable}
 use Rattle.wire.specs.Write.{writable}
@@ -35,8 +36,11 @@ use Rattle.promise.specs.Lent.{Lent, tapOn, questionOn, gossipOn}
 use Rattle.promise.specs.KeepsLaws.{tap-keeps, question-keeps, gossip-keeps}
 use Rattle.answer.specs.KindLaws.{first-taken, first-gossiped}
 use Rattle.answer.specs.Speech.{bytesFor, sayable, longOf}
-use Rattle.answer.specs.SpeechLaws.{reply-long, tap-says, tap-long, question-says, question-long, gossip-says, gossip-long}
-use Rattle.answer.specs.Answer.{Done, doneBy, sendDone, badOn, otherDone, kindIn, Line, gossipLine, tapLine, questionLine, sendLine, lines, doneIn, doneOn, Answered, answerBy, kindSaid, answerOn, Answers, roomBy, roomFor}
+use Rattle.answer.specs.SpeechLaws.{reply-long, tap-says, tap-long, question-says, question-long, gossip-says}
+use Rattle.answer.specs.SpeechLaws.{gossip-long}
+use Rattle.answer.specs.Answer.{Done, doneBy, sendDone, badOn, otherDone, kindIn, Line, gossipLine, tapLine}
+use Rattle.answer.specs.Answer.{questionLine, sendLine, lines, doneIn, doneOn, Answered, answerBy, kindSaid}
+use Rattle.answer.specs.Answer.{answerOn, Answers, roomBy, roomFor}
 
 pub short : (d : Done) (ws out : List ℕ) → length out < length (d .says) → Answers (answerBy d ws out) 0 ws out
 unfolding answerBy

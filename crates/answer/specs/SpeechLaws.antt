@@ -38,7 +38,8 @@ use Rattle.ledger.specs.Message.{Message}
 use Rattle.ledger.specs.Record.{Record, isApplied, stampOf}
 use Rattle.ledger.specs.RecordLaws.{obeys, stamp-fits}
 use Rattle.wire.specs.Requests.{tapLong, questionLong, gossipLong}
-use Rattle.wire.specs.Kinds.{bitsWidth, size, stampBody, tapKind, questionKind, tapAt, stampAt, takenKind, alreadyKind, verdictKind, waitKind, refusalKind, gossipTakenKind, inTable}
+use Rattle.wire.specs.Kinds.{bitsWidth, size, stampBody, tapKind, questionKind, tapAt, stampAt, takenKind, alreadyKind}
+use Rattle.wire.specs.Kinds.{verdictKind, waitKind, refusalKind, gossipTakenKind, inTable}
 use Rattle.wire.specs.Laws.{length-written}
 use Rattle.wire.specs.Read.{lineOf, readable}
 use Rattle.wire.specs.Said as wire
@@ -53,7 +54,8 @@ use Rattle.meaning.specs.Step.{answerOf, ask, newOnes, nowReady, nowApplied, go
 use Rattle.meaning.specs.StepLaws.{TakeDone, next-word, tap-cases, GossipDone, gossip-cases}
 use Rattle.lent.specs.SoundWords.{lawful-sound}
 use Rattle.lent.specs.Words.{bookLong, bookOf, wordsOf, lawful}
-use Rattle.promise.specs.Lent.{Lent, onBook, heard, hearTap, tapOn, hearQuestion, questionOn, hearGossip, gossipOn, putFront, openOr, openOn}
+use Rattle.promise.specs.Lent.{Lent, onBook, heard, tapOn, questionOn, gossipOn, hear, ofTap, ofQuestion, ofGossip}
+use Rattle.promise.specs.Lent.{putFront, openOr, openOn}
 use Rattle.promise.specs.Spoken.{spoken}
 use Rattle.promise.specs.declared.Reply as answer
 use Rattle.promise.specs.declared.Reply.the-variants as says
@@ -90,8 +92,7 @@ pub reply-long : (r : Reply) → T (sayable r) → length (bytesFor r) ≡ longO
 reply-long r t = bytes-long r t ∙ kind-long r
 
 -- a reply that can be said stands at the front of an output that has room for it, and 12 is given exactly where
--- it has
--- not
+-- it has not
 pub says-put : (r : Reply) (out : List ℕ) → T (sayable r) → sayOn r out ≡ putFront (bytesFor r) out
 unfolding sayOn writeAs bytesFor
 says-put r out t = rw (bytes-long r t, is-true (sayable r) t)
@@ -342,7 +343,7 @@ module _ (ws bytes : List ℕ) where
   tap-fine =
       let b = bookOf ws in
       let k = tapKind (b .screens) in
-      on-within tapLong ws (hearTap b bytes) tt
+      on-within tapLong ws (hear ofTap b bytes) tt
       (λ s. heard-within tapLong (readable k bytes) b
       (tapStep b (tapAt 1 (lineOf k bytes)) (stampAt 6 (lineOf k bytes))) tt
       (tap-within b s (tapAt 1 (lineOf k bytes)) (stampAt 6 (lineOf k bytes))))
@@ -353,7 +354,7 @@ module _ (ws bytes : List ℕ) where
       let b = bookOf ws in
       let k = questionKind (b .screens) in
       let l = stampAt 2 (lineOf k bytes) in
-      on-within questionLong ws (hearQuestion b bytes) tt
+      on-within questionLong ws (hear ofQuestion b bytes) tt
       (λ s. heard-within questionLong (readable k bytes) b (ask b (getD (lineOf k bytes) 1 0) l) tt
       (ask-within b s (getD (lineOf k bytes) 1 0) l (omega (arith, length-list (partsAt 2 (lineOf k bytes))))))
 
@@ -361,7 +362,7 @@ module _ (ws bytes : List ℕ) where
   unfolding gossipOn writable figures refusalKind inTable
   gossip-fine =
       let b = bookOf ws in
-      on-within gossipLong ws (hearGossip b bytes) tt
+      on-within gossipLong ws (hear ofGossip b bytes) tt
       (λ s. heard-within gossipLong (wellFormed bytes) b (gossipStep b (messageOf bytes)) tt
       (gossip-within b (messageOf bytes)))
 

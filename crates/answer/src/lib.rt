@@ -42,7 +42,8 @@ ghost use lib.Dec.{T};
 ghost use Rattle.promise.specs.Lent.{tapOn, questionOn, gossipOn, putFront};
 ghost use Rattle.open_step.specs.Opening.{Opens};
 ghost use Rattle.answer.specs.Speech.{bytesFor, sayable};
-ghost use Rattle.answer.specs.Answer.{doneBy, sendDone, badOn, otherDone, kindIn, answerBy, answerOn, Answers, roomFor, openFrom, longIn};
+ghost use Rattle.answer.specs.Answer.{doneBy, sendDone, badOn, otherDone, kindIn, answerBy, answerOn, Answers};
+ghost use Rattle.answer.specs.Answer.{roomFor, openFrom, longIn};
 
 pub fn speak(reply: Reply, out: &mut [u8]) -> Written
     ensures { λ r. ⌜ Meets (sayOn (spoken reply) (now (out .entry))) r (now (out .exit)) ⌝ }

@@ -32,7 +32,8 @@ use Rattle.wire.specs.ReadLaws.{told-line}
 use Rattle.wire.specs.declared.Said.{Said}
 use Rattle.wire.specs.declared.Said.the-variants as said
 use Rattle.message.specs.Find.{partAt}
-use Rattle.message.specs.Message.{countIn, recordsKind, recordParts, recordFrom, recordsIn, inOrder, wellFormed}
+use Rattle.wire.specs.Head.{countIn}
+use Rattle.message.specs.Message.{recordsKind, recordParts, recordFrom, recordsIn, inOrder, wellFormed}
 use Rattle.message.specs.MessageLaws.{length-records, record-held}
 use Rattle.message.specs.Parts.{part-rules}
 use Rattle.message.specs.Tags.{tagIn, othersThan, not-this}

@@ -6,7 +6,8 @@ use lib.Dec.{T}
 use Rattle.stamp.specs.Stamp.{Stamp}
 use Rattle.ledger.specs.Record.{Record}
 use Rattle.message.specs.Find.{partAt}
-use Rattle.message.specs.Message.{screensIn, stampIn, recordsKind, recordFrom, wellFormed}
+use Rattle.wire.specs.Head.{screensIn, stampIn}
+use Rattle.message.specs.Message.{recordsKind, recordFrom, wellFormed}
 
 -- the bytes are a message whose head has n screens and stamp m
 pub record Head (bytes : List ℕ) (n : ℕ) (m : Stamp) : Type 0 where

@@ -23,7 +23,8 @@ ghost use Rattle.ledger.specs.Record.{isKnown};
 ghost use Rattle.log.specs.Region.{rowLong, stampLong, recordAt, recordsAt};
 ghost use Rattle.log.specs.Held.{climb, holdsAll};
 ghost use Rattle.log_edit.specs.Merge.{Fresh, merged};
-ghost use Rattle.message.specs.Message.{countIn, recordsIn};
+ghost use Rattle.wire.specs.Head.{countIn};
+ghost use Rattle.message.specs.Message.{recordsIn};
 ghost use Rattle.arrivals.specs.Head.{Head, recordNo};
 
 // The row of record i. The head has n screens and stamp m.
@@ -54,8 +55,7 @@ fn one_new(row: &[u64], known: &[u64]) -> usize
 }
 
 // One pass over the records: how far the numbers of each origin go without a gap from those reached, written over them.
-// Gives
-// how many records are not known under a stamp.
+// Gives how many records are not known under a stamp.
 fn survey(msg: &[u8], count: usize, n: usize, m: Parts, known: &[u64], reached: &mut [u64]) -> usize
     requires { ⌜ Head (now msg) n (listOf m) ⌝ }
     requires { ⌜ countIn (now msg) ≡ count ⌝ }
@@ -99,8 +99,8 @@ pub fn look_at(msg: &[u8], count: usize, n: usize, m: Parts, known: &[u64]) -> L
 }
 
 // The records that are not known under a stamp, merged into the first rows of the log's region over a gap of as many
-// rows behind
-// them: from the last record to the first, so that each row moves at most once for each new record below it.
+// rows behind them: from the last record to the first, so that each row moves at most once for each new record below
+// it.
 pub fn merge_new(
     r: &mut [u64],
     logged: usize,

@@ -1,6 +1,5 @@
 -- Laws on the question's promise: a well-formed question to a sound book is answered exactly when the book's value
--- stamp covers
--- its label. Assumes nothing.
+-- stamp covers its label. Assumes nothing.
 use Prim.Native.Nat.{ℕ}
 use mathlib.Core.Path.{_≡_, sym, ap, subst, _∙_}
 use mathlib.Core.Bool.{Bool, true, _&&_, cond}

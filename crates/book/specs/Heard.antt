@@ -26,7 +26,8 @@ use Rattle.wire.specs.Write.{Output, Meets, refuse}
 use Rattle.wire.specs.declared.Said.the-variants as said
 use Rattle.wire.specs.declared.Written.{Written}
 use Rattle.wire.specs.declared.Written.the-variants.{Refused}
-use Rattle.message.specs.Message.{headLine, wellFormed, messageOf, readGossip, messageBytes}
+use Rattle.wire.specs.Head.{headLine}
+use Rattle.message.specs.Message.{wellFormed, messageOf, readGossip, messageBytes}
 use Rattle.message.specs.Told.{gossip-told, head-in}
 use Rattle.tap_step.specs.Stop.{StopsTap}
 use Rattle.tap_step.specs.declared.TapStop.{TapStop}
@@ -40,7 +41,8 @@ use Rattle.meaning.specs.Reply.{Reply, refusal}
 use Rattle.meaning.specs.Step.{Outcome, tapStops, tapStep, ask, send, gossipStops, gossipStep}
 use Rattle.lent.specs.SoundWords.{lawful-held}
 use Rattle.lent.specs.Words.{bookOf, wordsOf, lawful}
-use Rattle.promise.specs.Lent.{Lent, Promise, onBook, heard, stopOn, tapOn, tapStop, questionOn, gossipOn, gossipStop, putFront, sendOn}
+use Rattle.promise.specs.Lent.{Lent, Promise, onBook, heard, stopOn, tapOn, tapStop, questionOn, gossipOn, gossipStop}
+use Rattle.promise.specs.Lent.{putFront, sendOn}
 use Rattle.promise.specs.LentLaws.{lentOf}
 use Rattle.promise.specs.Spoken.{spoken}
 use Rattle.promise.specs.declared.Reply as answer

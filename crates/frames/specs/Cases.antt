@@ -9,11 +9,13 @@ use Rattle.lists.specs.Table.{agrees}
 use Rattle.lists.specs.Tests.{numbers, keep}
 use Rattle.limits.specs.Limits.{logRoom}
 use Rattle.numbers.specs.Number.{numberFrom}
-use Rattle.wire.specs.Kinds.{bodyOf}
+use Rattle.wire.specs.Head.{headLine}
+use Rattle.wire.specs.Kinds.{bodyOf, headKind}
+use Rattle.wire.specs.Read.{lineOf}
 use Rattle.wire.specs.Requests.{replyRoom, isRequest}
 use Rattle.frames.specs.declared.Frame.{Frame}
 use Rattle.frames.specs.declared.Frame.the-variants.{More, Whole, Stop}
-use Rattle.frames.specs.Frame.{expected, countRead, gossipFrame, frameOf}
+use Rattle.frames.specs.Frame.{expected, gossipFrame, frameOf}
 use Rattle.frames.specs.Next.{kindsStand, nextOf}
 
 -- the message's length; 0 and how many bytes are needed to tell; or what is written where reading stops
@@ -53,6 +55,6 @@ table =
     ∷ []
 
 pub framing-practised : agrees table ≡ true
-unfolding shown gossip table mid numberFrom logRoom bodyOf replyRoom isRequest expected countRead gossipFrame frameOf
-    kindsStand nextOf
+unfolding shown gossip table mid numberFrom logRoom bodyOf replyRoom isRequest expected headLine lineOf headKind
+    gossipFrame frameOf kindsStand nextOf
 framing-practised = refl

@@ -4,9 +4,8 @@ use mathlib.Core.Bool.{Bool, cond}
 use mathlib.Core.List.{List, [], _∷_}
 use lib.Dec.{eqb, ltb}
 use lib.ListN.{length}
-use Rattle.lists.specs.Part.{mid}
 use Rattle.limits.specs.Limits.{logRoom}
-use Rattle.numbers.specs.Number.{numberOf}
+use Rattle.wire.specs.Head.{countIn}
 use Rattle.wire.specs.Kinds.{bodyOf, headLong, recordLong, headNumber, openNumber}
 use Rattle.wire.specs.Requests.{isRequest}
 use Rattle.wire.specs.declared.Body.{Body}
@@ -18,18 +17,15 @@ use Rattle.frames.specs.declared.Frame.the-variants.{More, Whole, Stop}
 unfoldable pub expected : Bool → ℕ → Bool
 expected opened k = cond opened (isRequest k) (eqb k openNumber)
 
--- a head is kind, sender, N and then its record count, in two bytes
-unfoldable pub countRead : List ℕ → ℕ
-countRead read = numberOf (mid 3 2 read)
-
+-- a head is kind, sender, N and then its record count: so many bytes tell it
 abbrev pub countEnd : ℕ
-countEnd = 5
+countEnd = 1 + 1 + 1 + 2
 
 -- a gossip message is a head and then exactly count records, at most 256
 unfoldable pub gossipFrame : List ℕ → Frame
 gossipFrame read =
     cond (ltb (length read) countEnd) (More countEnd)
-    (cond (ltb logRoom (countRead read)) Stop (Whole (headLong + countRead read * recordLong)))
+    (cond (ltb logRoom (countIn read)) Stop (Whole (headLong + countIn read * recordLong)))
 
 -- of every other kind: one byte of kind, and the kind fixes the body's length
 abbrev pub bodyFrame : Body → Frame

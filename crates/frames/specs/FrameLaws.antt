@@ -20,7 +20,8 @@ use Rattle.wire.specs.declared.Body.{Body}
 use Rattle.wire.specs.declared.Body.the-variants.{Long, Bad}
 use Rattle.frames.specs.declared.Frame.{Frame}
 use Rattle.frames.specs.declared.Frame.the-variants.{More, Whole, Stop}
-use Rattle.frames.specs.Frame.{expected, countRead, countEnd, gossipFrame, bodyFrame, frameOf}
+use Rattle.wire.specs.Head.{countIn, count-place}
+use Rattle.frames.specs.Frame.{expected, countEnd, gossipFrame, bodyFrame, frameOf}
 
 -- the frame is told: no more bytes are asked for
 abbrev pub told : Frame → Bool
@@ -31,9 +32,11 @@ told Stop = true
 -- what a gossip's head tells, by its first five bytes
 five-tell : (a b c d e : ℕ) (rest other : List ℕ)
     → gossipFrame (a ∷ b ∷ c ∷ d ∷ e ∷ rest) ≡ gossipFrame (a ∷ b ∷ c ∷ d ∷ e ∷ other)
-unfolding gossipFrame countRead mid
+unfolding gossipFrame mid
 five-tell a b c d e rest other =
     rw (
+      count-place (a ∷ b ∷ c ∷ d ∷ e ∷ rest),
+      count-place (a ∷ b ∷ c ∷ d ∷ e ∷ other),
       le-ltb (length (a ∷ b ∷ c ∷ d ∷ e ∷ rest)) countEnd (omega arith),
       le-ltb (length (a ∷ b ∷ c ∷ d ∷ e ∷ other)) countEnd (omega arith),
     )
@@ -57,10 +60,10 @@ gossip-settled (a ∷ b ∷ c ∷ d ∷ e ∷ rest) more t = five-tell a b c d e
 
 pub gossip-short : (read : List ℕ) (n : ℕ) → gossipFrame read ≡ More n → (length read < n) × (n ≤ countEnd)
 unfolding gossipFrame
-gossip-short read n = go (ltb (length read) countEnd) refl (ltb logRoom (countRead read))
+gossip-short read n = go (ltb (length read) countEnd) refl (ltb logRoom (countIn read))
   where
     go : (p : Bool) → ltb (length read) countEnd ≡ p → (q : Bool)
-        → cond p (More countEnd) (cond q Stop (Whole (headLong + countRead read * recordLong))) ≡ More n
+        → cond p (More countEnd) (cond q Stop (Whole (headLong + countIn read * recordLong))) ≡ More n
         → (length read < n) × (n ≤ countEnd)
     go true s q e = let z : countEnd ≡ n = cc in (omega (arith, ltb-true (length read) countEnd s), omega arith)
     go false s true e = let z : _≡_ {A = ℕ} 0 1 = cc in absurd (omega arith)
@@ -68,15 +71,15 @@ gossip-short read n = go (ltb (length read) countEnd) refl (ltb logRoom (countRe
 
 gossip-long : (read : List ℕ) (n : ℕ) → gossipFrame read ≡ Whole n → (1 ≤ n) × (n ≤ longest)
 unfolding gossipFrame
-gossip-long read n = go (ltb (length read) countEnd) (ltb logRoom (countRead read)) refl
+gossip-long read n = go (ltb (length read) countEnd) (ltb logRoom (countIn read)) refl
   where
-    go : (p q : Bool) → ltb logRoom (countRead read) ≡ q
-        → cond p (More countEnd) (cond q Stop (Whole (headLong + countRead read * recordLong))) ≡ Whole n
+    go : (p q : Bool) → ltb logRoom (countIn read) ≡ q
+        → cond p (More countEnd) (cond q Stop (Whole (headLong + countIn read * recordLong))) ≡ Whole n
         → (1 ≤ n) × (n ≤ longest)
     go true q s e = let z : _≡_ {A = ℕ} 0 1 = cc in absurd (omega arith)
     go false true s e = let z : _≡_ {A = ℕ} 0 1 = cc in absurd (omega arith)
-    go false false s e = let z : headLong + countRead read * recordLong ≡ n = cc in
-        (omega arith, omega (arith, ltb-false logRoom (countRead read) s))
+    go false false s e = let z : headLong + countIn read * recordLong ≡ n = cc in
+        (omega arith, omega (arith, ltb-false logRoom (countIn read) s))
 
 -- the other kinds
 pub body-settled : (b : Body) (n : ℕ) → bodyFrame b ≡ More n → ⊥

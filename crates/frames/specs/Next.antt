@@ -10,7 +10,8 @@ use Rattle.limits.specs.Limits.{logRoom}
 use Rattle.wire.specs.Kinds.{headLong, recordLong, headNumber, recordNumber}
 use Rattle.frames.specs.declared.Frame.{Frame}
 use Rattle.frames.specs.declared.Frame.the-variants.{More, Whole, Stop}
-use Rattle.frames.specs.Frame.{countRead, countEnd, frameOf}
+use Rattle.wire.specs.Head.{countIn}
+use Rattle.frames.specs.Frame.{countEnd, frameOf}
 
 -- each of the first so many records of a gossip message whose byte of kind is read has its kind
 abbrev pub recordStands : List ℕ → ℕ → Bool
@@ -23,15 +24,14 @@ recordsStand count read = allBelow count (recordStands read)
 
 -- the count of a gossip message is told and within its limit
 abbrev pub Counted : List ℕ → Type 0
-Counted read = getD read 0 0 ≡ headNumber → (countEnd ≤ length read) × (countRead read ≤ logRoom)
+Counted read = getD read 0 0 ≡ headNumber → (countEnd ≤ length read) × (countIn read ≤ logRoom)
 
 -- only gossip holds records
 unfoldable pub kindsStand : List ℕ → Bool
-kindsStand read = cond (eqb (getD read 0 0) headNumber) (recordsStand (countRead read) read) true
+kindsStand read = cond (eqb (getD read 0 0) headNumber) (recordsStand (countIn read) read) true
 
 -- at least so many bytes are needed in all; the first so many are the next message; an unexpected kind, a record's too
--- as soon as
--- that byte is read, or a count above 256 stops the reading
+-- as soon as that byte is read, or a count above 256 stops the reading
 abbrev pub nextBy : Frame → List ℕ → Frame
 nextBy (More n) read = More n
 nextBy (Whole n) read = cond (kindsStand read) (cond (ltb (length read) n) (More n) (Whole n)) Stop

@@ -14,26 +14,28 @@ use lib.Dec.{T, eqb, leb, ltb}
 use lib.ListN.{length, getD, length-append, List·getD-append}
 use Rattle.lists.specs.TestLaws.{allBelow-at, allBelow-from}
 use Rattle.lists.specs.ElementLaws.{below-same}
-use Rattle.lists.specs.Part.{mid}
+use Rattle.lists.specs.Part.{mid-append}
 use Rattle.limits.specs.Limits.{logRoom}
+use Rattle.numbers.specs.Number.{numberOf}
 use Rattle.wire.specs.Kinds.{bodyOf, headLong, longest, recordLong, headNumber, recordNumber}
 use Rattle.frames.specs.declared.Frame.{Frame}
 use Rattle.frames.specs.declared.Frame.the-variants.{More, Whole, Stop}
-use Rattle.frames.specs.Frame.{expected, countRead, countEnd, gossipFrame, bodyFrame, frameOf}
+use Rattle.wire.specs.Head.{countIn, count-place}
+use Rattle.frames.specs.Frame.{expected, countEnd, gossipFrame, bodyFrame, frameOf}
 use Rattle.frames.specs.FrameLaws.{told, settled, gossip-short, body-settled, more-short, whole-long}
 use Rattle.frames.specs.Next.{recordStands, recordsStand, Counted, kindsStand, nextBy, nextOf}
 
 gossip-framed : (read : List ℕ) (n : ℕ) → gossipFrame read ≡ Whole n
-    → (countEnd ≤ length read) × (countRead read ≤ logRoom) × (headLong + countRead read * recordLong ≡ n)
+    → (countEnd ≤ length read) × (countIn read ≤ logRoom) × (headLong + countIn read * recordLong ≡ n)
 unfolding gossipFrame
-gossip-framed read n = go (ltb (length read) countEnd) refl (ltb logRoom (countRead read)) refl
+gossip-framed read n = go (ltb (length read) countEnd) refl (ltb logRoom (countIn read)) refl
   where
-    go : (p : Bool) → ltb (length read) countEnd ≡ p → (q : Bool) → ltb logRoom (countRead read) ≡ q
-        → cond p (More countEnd) (cond q Stop (Whole (headLong + countRead read * recordLong))) ≡ Whole n
-        → (countEnd ≤ length read) × (countRead read ≤ logRoom) × (headLong + countRead read * recordLong ≡ n)
+    go : (p : Bool) → ltb (length read) countEnd ≡ p → (q : Bool) → ltb logRoom (countIn read) ≡ q
+        → cond p (More countEnd) (cond q Stop (Whole (headLong + countIn read * recordLong))) ≡ Whole n
+        → (countEnd ≤ length read) × (countIn read ≤ logRoom) × (headLong + countIn read * recordLong ≡ n)
     go true s q t e = let z : _≡_ {A = ℕ} 0 1 = cc in absurd (omega arith)
     go false s true t e = let z : _≡_ {A = ℕ} 0 1 = cc in absurd (omega arith)
-    go false s false t e = (ltb-false (length read) countEnd s, ltb-false logRoom (countRead read) t, cc)
+    go false s false t e = (ltb-false (length read) countEnd s, ltb-false logRoom (countIn read) t, cc)
 
 pub counted : (read : List ℕ) (opened : Bool) (n : ℕ) → frameOf read opened ≡ Whole n → (0 < length read) × Counted read
 unfolding frameOf
@@ -42,7 +44,7 @@ counted (k ∷ rest) opened n e =
     (omega arith, λ one. go (expected opened k) (eqb k headNumber) (eq-eqb k headNumber one) e)
   where
     go : (p q : Bool) → q ≡ true → cond p (cond q (gossipFrame (k ∷ rest)) (bodyFrame (bodyOf k))) Stop ≡ Whole n
-        → (countEnd ≤ length (k ∷ rest)) × (countRead (k ∷ rest) ≤ logRoom)
+        → (countEnd ≤ length (k ∷ rest)) × (countIn (k ∷ rest) ≤ logRoom)
     go true true f w = let g = gossip-framed (k ∷ rest) n w in (g .0, g .1)
     go true false f w = absurd (subst T (sym f) tt)
     go false q f w = let z : _≡_ {A = ℕ} 0 1 = cc in absurd (omega arith)
@@ -50,13 +52,13 @@ counted (k ∷ rest) opened n e =
 -- and then it is as long as its records say
 counted-long :
     (read : List ℕ) (opened : Bool) (n : ℕ) → frameOf read opened ≡ Whole n → getD read 0 0 ≡ headNumber
-    → headLong + countRead read * recordLong ≡ n
+    → headLong + countIn read * recordLong ≡ n
 unfolding frameOf
 counted-long [] opened n e one = let z : _≡_ {A = ℕ} 0 1 = cc in absurd (omega arith)
 counted-long (k ∷ rest) opened n e one = go (expected opened k) (eqb k headNumber) (eq-eqb k headNumber one) e
   where
     go : (p q : Bool) → q ≡ true → cond p (cond q (gossipFrame (k ∷ rest)) (bodyFrame (bodyOf k))) Stop ≡ Whole n
-        → headLong + countRead (k ∷ rest) * recordLong ≡ n
+        → headLong + countIn (k ∷ rest) * recordLong ≡ n
     go true true f w = gossip-framed (k ∷ rest) n w .2
     go true false f w = absurd (subst T (sym f) tt)
     go false q f w = let z : _≡_ {A = ℕ} 0 1 = cc in absurd (omega arith)
@@ -100,14 +102,9 @@ next-more read opened n = go (frameOf read opened) refl
     go Stop f e = let z : _≡_ {A = ℕ} 0 1 = cc in absurd (omega arith)
 
 -- once told, what comes behind does not matter
-count-settled : (read more : List ℕ) → countEnd ≤ length read → countRead (read ++ more) ≡ countRead read
-unfolding countRead mid
-count-settled [] more h = absurd (omega arith)
-count-settled (a ∷ []) more h = absurd (omega arith)
-count-settled (a ∷ b ∷ []) more h = absurd (omega arith)
-count-settled (a ∷ b ∷ c ∷ []) more h = absurd (omega arith)
-count-settled (a ∷ b ∷ c ∷ d ∷ []) more h = absurd (omega arith)
-count-settled (a ∷ b ∷ c ∷ d ∷ e ∷ rest) more h = refl
+count-settled : (read more : List ℕ) → countEnd ≤ length read → countIn (read ++ more) ≡ countIn read
+count-settled read more h =
+    count-place (read ++ more) ∙ ap numberOf (mid-append 3 2 read more h) ∙ sym (count-place read)
 
 module _ (read more : List ℕ) where
   -- a byte of kind that is read stays as it is
@@ -128,16 +125,16 @@ module _ (read more : List ℕ) where
 
   module _ (begun : 0 < length read) (told : Counted read) where
     kinds-by : (b : Bool) → eqb (getD read 0 0) headNumber ≡ b
-        → kindsStand (read ++ more) ≡ cond b (recordsStand (countRead read) (read ++ more)) true
+        → kindsStand (read ++ more) ≡ cond b (recordsStand (countIn read) (read ++ more)) true
     unfolding kindsStand
     kinds-by b e =
-        ap (λ (k : ℕ). cond (eqb k headNumber) (recordsStand (countRead (read ++ more)) (read ++ more)) true)
+        ap (λ (k : ℕ). cond (eqb k headNumber) (recordsStand (countIn (read ++ more)) (read ++ more)) true)
         (List·getD-append read more 0 0 begun)
-        ∙ ap (λ (c : Bool). cond c (recordsStand (countRead (read ++ more)) (read ++ more)) true) e ∙ go b e
+        ∙ ap (λ (c : Bool). cond c (recordsStand (countIn (read ++ more)) (read ++ more)) true) e ∙ go b e
       where
         go : (c : Bool) → eqb (getD read 0 0) headNumber ≡ c
-            → cond c (recordsStand (countRead (read ++ more)) (read ++ more)) true
-            ≡ cond c (recordsStand (countRead read) (read ++ more)) true
+            → cond c (recordsStand (countIn (read ++ more)) (read ++ more)) true
+            ≡ cond c (recordsStand (countIn read) (read ++ more)) true
         go true s =
             ap (λ (n : ℕ). recordsStand n (read ++ more))
             (count-settled read more (told (eqb-true (getD read 0 0) headNumber s) .0))
@@ -148,25 +145,25 @@ module _ (read more : List ℕ) where
     unfolding kindsStand
     kinds-before t = go (eqb (getD read 0 0) headNumber) refl
       where
-        go : (b : Bool) → eqb (getD read 0 0) headNumber ≡ b → T (cond b (recordsStand (countRead read) read) true)
+        go : (b : Bool) → eqb (getD read 0 0) headNumber ≡ b → T (cond b (recordsStand (countIn read) read) true)
         go true e =
-            allBelow-from (countRead read) (recordStands read)
-            (λ k l. stood-before k (allBelow-at (countRead read) (recordStands (read ++ more))
+            allBelow-from (countIn read) (recordStands read)
+            (λ k l. stood-before k (allBelow-at (countIn read) (recordStands (read ++ more))
             (subst T (kinds-by true e) t) k l))
         go false e = tt
 
     -- and once all of it is read they have them whatever comes
     kinds-after :
-        (getD read 0 0 ≡ headNumber → headLong + countRead read * recordLong ≤ length read)
+        (getD read 0 0 ≡ headNumber → headLong + countIn read * recordLong ≤ length read)
         → kindsStand (read ++ more) ≡ kindsStand read
     unfolding kindsStand
     kinds-after all = kinds-by (eqb (getD read 0 0) headNumber) refl ∙ go (eqb (getD read 0 0) headNumber) refl
       where
         go : (b : Bool) → eqb (getD read 0 0) headNumber ≡ b
-            → cond b (recordsStand (countRead read) (read ++ more)) true
-            ≡ cond b (recordsStand (countRead read) read) true
+            → cond b (recordsStand (countIn read) (read ++ more)) true
+            ≡ cond b (recordsStand (countIn read) read) true
         go true e =
-            below-same (countRead read) (recordStands (read ++ more)) (recordStands read)
+            below-same (countIn read) (recordStands (read ++ more)) (recordStands read)
             (λ k l. stands-still k (omega (arith, l, all (eqb-true (getD read 0 0) headNumber e))))
         go false e = refl
 

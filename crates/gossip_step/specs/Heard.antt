@@ -2,12 +2,11 @@
 use Prim.Native.Nat.{ℕ}
 use mathlib.Core.Path.{_≡_}
 use mathlib.Core.List.{List}
-use lib.ListN.{getD}
 use Rattle.stamp.specs.Stamp.{Stamp}
-use Rattle.message.specs.Message.{headLine, countIn}
+use Rattle.wire.specs.Head.{senderIn, countIn}
 use Rattle.arrivals.specs.Head.{Head}
 
 pub record Heard (bytes : List ℕ) (sender screens count : ℕ) (m : Stamp) : Type 0 where
   pub head : Head bytes screens m
-  pub from : getD (headLine bytes) 1 0 ≡ sender
+  pub from : senderIn bytes ≡ sender
   pub number : countIn bytes ≡ count

@@ -1,6 +1,5 @@
 -- Why a gossip is refused, as a number: the first of the refusals' tests, in their order, that holds, and zero if none
--- does.
--- Assumes nothing.
+-- does. Assumes nothing.
 use Prim.Native.Nat.{ℕ, zero, suc, _+_}
 use mathlib.Core.Bool.{not, _||_, cond}
 use lib.Dec.{eqb, ltb}

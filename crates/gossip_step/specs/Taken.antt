@@ -8,7 +8,8 @@ use lib.ListN.{length, set}
 use Rattle.limits.specs.Limits.{parts}
 use Rattle.stamp.specs.Stamp.{Stamp, atMost, merge}
 use Rattle.ledger.specs.Log.{unknowns}
-use Rattle.message.specs.Message.{countIn, recordsIn}
+use Rattle.wire.specs.Head.{countIn}
+use Rattle.message.specs.Message.{recordsIn}
 use Rattle.arrivals.specs.Head.{Head}
 use Rattle.meaning.specs.Book.{Book, row, known}
 

@@ -15,7 +15,8 @@ use Rattle.tally.specs.Body.{tapsIn, bodyFits}
 use Rattle.tally.specs.BodyLaws.{taps-body}
 use Rattle.tally.specs.Standing.{standing, contested, verdictOf, highest, ofPrompt}
 use Rattle.tally.specs.declared.Standing.{Standing}
-use Rattle.tally.specs.StandingLaws.{decline-counted, standing-over, accepted-only, accept-there, standing-showing, both-contested, accept-counted, contested-not}
+use Rattle.tally.specs.StandingLaws.{decline-counted, standing-over, accepted-only, accept-there, standing-showing}
+use Rattle.tally.specs.StandingLaws.{both-contested, accept-counted, contested-not}
 use Rattle.tally.specs.Tap.{tapFits}
 use Rattle.tally.specs.TapLaws.{prompt-in, answer-either}
 use Rattle.tally.specs.declared.Tap.{Tap}

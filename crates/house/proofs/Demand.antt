@@ -32,7 +32,8 @@ use Rattle.meaning.specs.Reply.{Reply, isAnswered}
 use Rattle.meaning.specs.SettleLaws.{mem-taps, taps-mem}
 use Rattle.meaning.specs.Step.{tapsOf, gossipStops, gossipStep, Outcome, ask}
 use Rattle.meaning.specs.StepLaws.{gossip-cases}
-use Rattle.house.specs.Demand.{exactlyOne, isUnknown, appliedOf, appliedTaps, HeardAs, is-returned, is-old, is-spent, no-room, is-taken, Demand}
+use Rattle.house.specs.Demand.{exactlyOne, isUnknown, appliedOf, appliedTaps, HeardAs, is-returned, is-old}
+use Rattle.house.specs.Demand.{is-spent, no-room, is-taken, Demand}
 use Rattle.house.specs.House.{House, still, Step, after, Later, Run}
 use Rattle.house.proofs.Invariant.{Inv, ScreenOk, Tapped, knownOf, SentOk}
 use Rattle.house.proofs.Numbers.{run-numbered}

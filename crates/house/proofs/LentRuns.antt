@@ -13,13 +13,11 @@ use Rattle.lists.specs.TestLaws.{_∈_, either, is-true, here, there, none-in}
 use Rattle.lists.specs.ElementLaws.{eq→eqb}
 use Rattle.lists.specs.Tests.{firstOf}
 use Rattle.limits.specs.Limits.{fewest, most}
-use Rattle.stamp.specs.Stamp.{Stamp}
-use Rattle.tally.specs.Body.{says, bodyFits}
-use Rattle.tally.specs.declared.Tap.{Tap}
+use Rattle.tally.specs.Body.{bodyFits}
 use Rattle.ledger.specs.LimitLaws.{range-from}
 use Rattle.ledger.specs.Message.{Message, inRange, messageFits}
 use Rattle.ledger.specs.Record.{Record}
-use Rattle.wire.specs.Kinds.{tapKind, questionKind, tapAt, stampAt}
+use Rattle.wire.specs.Kinds.{questionKind, stampAt}
 use Rattle.wire.specs.Read.{lineOf, readable}
 use Rattle.wire.specs.Write.{Output, refuse}
 use Rattle.wire.specs.declared.Written.the-variants.{Wrote}
@@ -28,18 +26,20 @@ use Rattle.message.specs.MessageLaws.{message-bytes, bytes-well}
 use Rattle.meaning.specs.Book.{Book, fresh}
 use Rattle.meaning.specs.BookLaws.{Sound}
 use Rattle.meaning.specs.Reply.{Reply, refusal, permits}
-use Rattle.meaning.specs.Step.{Outcome, openStops, tapStep, newRecord, ask, send, gossipStep}
+use Rattle.meaning.specs.Request.{Request, makes, step}
+use Rattle.meaning.specs.Step.{Outcome, openStops, ask, send, gossipStep}
 use Rattle.lent.specs.SoundWords.{sound-lawful}
 use Rattle.lent.specs.Words.{bookLong, bookOf, wordsOf, lawful}
-use Rattle.promise.specs.Lent.{Lent, hearTap, tapOn, promptIn, labelIn, questionOn, gossipOn, putFront, sendOn, openOr, openOn}
-use Rattle.promise.specs.KeepsLaws.{question-keeps}
-use Rattle.promise.specs.LentLaws.{lentOf, book-back, tap-on, question-on, gossip-on, send-on}
+use Rattle.promise.specs.Lent.{Entry, ofGossip, ofTap, ofQuestion, reads, requestIn, entryOn, Lent, promptIn, labelIn}
+use Rattle.promise.specs.Lent.{questionOn, gossipOn, putFront, sendOn, openOr, openOn}
+use Rattle.promise.specs.LentLaws.{lentOf, book-back, entry-on, send-on}
 use Rattle.house.specs.Consent.{answerAt, Consent}
 use Rattle.house.specs.Demand.{HeardAs, Demand}
-use Rattle.house.specs.House.{House, openHouse, put, grown, afterRequest, afterTap, afterSend, afterGossip}
+use Rattle.house.specs.House.{House, openHouse, put, grown, afterRequest, afterSend}
 use Rattle.house.specs.House.{Step, Run}
 use Rattle.house.specs.House as books
-use Rattle.house.specs.LentHouse.{LentHouse, openLent, recordFor, lentTap, lentQuestion, lentSend, lentGossip, LentStep, tap, question, sends, arrives, LentRun, opened, onward, held, LentDemand}
+use Rattle.house.specs.LentHouse.{LentHouse, openLent, madeBy, lentRequest, lentSend, MayCome, LentStep, hears}
+use Rattle.house.specs.LentHouse.{sends, LentRun, opened, onward, held, LentDemand}
 use Rattle.house.proofs.Consent.{no-refused-consent}
 use Rattle.house.proofs.Demand.{third-demand}
 use Rattle.house.proofs.Invariant.{put-either}
@@ -116,84 +116,86 @@ module _ (n : ℕ) (lo : fewest ≤ n) (hi : n ≤ most) where
     pub same : Same n h′
     pub way : Step n (s .house) (same .house) ⊎ (s .house ≡ same .house)
 
-  not-grown : (k : ℕ) (r : Record) (history : List Record) → grown (refusal k) r history ≡ history
+  not-grown : (k : ℕ) (made history : List Record) → grown (refusal k) made history ≡ history
   unfolding grown
-  not-grown k r history = refl
+  not-grown k made history = refl
 
-  next-tap : {h : LentHouse} (s : Same n h) (i : ℕ) → i < n → (bytes : List ℕ) → Next s (lentTap h i bytes)
-  unfolding lentTap afterTap afterRequest recordFor
-  next-tap {h} s i u bytes = go (readable (tapKind (b .screens)) bytes) refl
+  -- well-formed gossip that was sent as these bytes was sent as the message that they hold
+  sent-message : {h : LentHouse} (s : Same n h) (bytes : List ℕ) → bytes ∈ h .sent → messageOf bytes ∈ s .house .sent
+  sent-message {h} s bytes x =
+      go (bytes-from (s .house .sent) bytes (subst (λ (l : List (List ℕ)). bytes ∈ l) (s .sent) x))
+    where
+      go : ((m : Message) × (m ∈ s .house .sent) × (bytes ≡ messageBytes m)) → messageOf bytes ∈ s .house .sent
+      go w = subst (λ (m : Message). m ∈ s .house .sent)
+          (sym (ap messageOf (w .2) ∙ message-bytes (w .0) (fits-of s (w .0) (w .1)))) (w .1)
+
+  may-come : {h : LentHouse} (s : Same n h) (b : Book) (e : Entry) (bytes : List ℕ) → MayCome h e bytes
+      → T (reads e b bytes) → books.MayCome (s .house) (requestIn e b bytes)
+  may-come s b ofGossip bytes c t = sent-message s bytes (c t)
+  may-come s b ofTap bytes c t = tt
+  may-come s b ofQuestion bytes c t = tt
+
+  next-request : {h : LentHouse} (s : Same n h) (i : ℕ) → i < n → (e : Entry) (bytes : List ℕ) → MayCome h e bytes
+      → Next s (lentRequest h i e bytes)
+  unfolding lentRequest afterRequest
+  next-request {h} s i u e bytes may = go (reads e b bytes) refl
     where
       b : Book
       b = s .house .book i
 
-      t : Tap
-      t = tapAt 1 (lineOf (tapKind (b .screens)) bytes)
+      r : Request
+      r = requestIn e b bytes
 
-      l : Stamp
-      l = stampAt 6 (lineOf (tapKind (b .screens)) bytes)
+      unread : Outcome
+      unread = record { reply = refusal 1; book = b }
 
       -- what the slice answers and leaves, once it is known whether the bytes are read
-      comes : (o : Outcome) → hearTap b bytes ≡ o → tapOn (h .words i) bytes ≡ lentOf o
-      comes o e = ap (λ (w : List ℕ). tapOn w bytes) (s .words i u) ∙ tap-on b (sound-of s i u) bytes ∙ ap lentOf e
+      comes : (c : Bool) → reads e b bytes ≡ c → entryOn e (h .words i) bytes ≡ lentOf (cond c (step b r) unread)
+      comes c p =
+          ap (λ (w : List ℕ). entryOn e w bytes) (s .words i u) ∙ entry-on b (sound-of s i u) e bytes
+          ∙ ap (λ (d : Bool). lentOf (cond d (step b r) unread)) p
 
-      asRecord : Book → Record
-      asRecord x =
-          let line = lineOf (tapKind (x .screens)) bytes in newRecord x (says (tapAt 1 line)) (stampAt 6 line)
+      made : madeBy e (h .words i) bytes ≡ makes b r
+      made = ap (λ (x : Book). makes x (requestIn e x bytes)) (book-of s i u)
 
-      becomes : asRecord (bookOf (h .words i)) ≡ asRecord b
-      becomes = ap asRecord (book-of s i u)
+      -- the history grows by what the book makes of them
+      grows : (o : Outcome) → entryOn e (h .words i) bytes ≡ lentOf o
+          → grown (entryOn e (h .words i) bytes .reply) (madeBy e (h .words i) bytes) (h .history)
+          ≡ grown (o .reply) (makes b r) (s .house .history)
+      grows o q =
+          ap₂ (λ (x : Reply) (y : List Record). grown x y (h .history)) (ap (λ (p : Lent). p .reply) q) made
+          ∙ ap (grown (o .reply) (makes b r)) (s .history)
 
-      go : (c : Bool) → readable (tapKind (b .screens)) bytes ≡ c → Next s (lentTap h i bytes)
-      go true e =
-          let q = comes (tapStep b t l)
-          (ap (λ (c : Bool). cond c (tapStep b t l) (record { reply = refusal 1; book = b })) e) in
+      go : (c : Bool) → reads e b bytes ≡ c → Next s (lentRequest h i e bytes)
+      go true p =
+          let q = comes true p in
+          let at = books.asks i u r (may-come s b e bytes may (subst T (sym p) tt)) in
           record {
             same = record {
-              house = afterTap (s .house) i t l;
-              run = books.onward (s .run) (books.tap i u t l);
-              words = put-words n (h .words) (s .house .book) (s .words) i (tapOn (h .words i) bytes .words)
-                  ((tapStep b t l) .book) (ap (λ (o : Lent). o .words) q);
-              past = put-past n (s .house .book) (s .past) i u ((tapStep b t l) .book);
+              house = afterRequest (s .house) i r;
+              run = books.onward (s .run) at;
+              words = put-words n (h .words) (s .house .book) (s .words) i (entryOn e (h .words i) bytes .words)
+                  ((step b r) .book) (ap (λ (o : Lent). o .words) q);
+              past = put-past n (s .house .book) (s .past) i u ((step b r) .book);
               sent = s .sent;
-              history = ap₂ (λ (x : Reply) (y : Record). grown x y (h .history)) (ap (λ (o : Lent). o .reply) q) becomes
-                  ∙ ap (grown ((tapStep b t l) .reply) (asRecord b)) (s .history);
+              history = grows (step b r) q;
             };
-            way = inl (books.tap i u t l);
+            way = inl at;
           }
-      go false e =
-          let q = comes (record { reply = refusal 1; book = b })
-          (ap (λ (c : Bool). cond c (tapStep b t l) (record { reply = refusal 1; book = b })) e) in
+      go false p =
+          let q = comes false p in
           record {
             same = record {
               house = s .house;
               run = s .run;
-              words = put-same n (h .words) (s .house .book) (s .words) i (tapOn (h .words i) bytes .words)
+              words = put-same n (h .words) (s .house .book) (s .words) i (entryOn e (h .words i) bytes .words)
                   (ap (λ (o : Lent). o .words) q);
               past = s .past;
               sent = s .sent;
-              history = ap₂ (λ (x : Reply) (y : Record). grown x y (h .history)) (ap (λ (o : Lent). o .reply) q) becomes
-                  ∙ not-grown 1 (asRecord b) (h .history) ∙ s .history;
+              history = grows unread q ∙ not-grown 1 (makes b r) (s .house .history);
             };
             way = inr refl;
           }
-
-  -- a question leaves every slice as it was
-  next-question : {h : LentHouse} (s : Same n h) (i : ℕ) → i < n → (bytes : List ℕ) → Next s (lentQuestion h i bytes)
-  unfolding lentQuestion
-  next-question {h} s i u bytes =
-      record {
-        same = record {
-          house = s .house;
-          run = s .run;
-          words = put-same n (h .words) (s .house .book) (s .words) i (questionOn (h .words i) bytes .words)
-              (question-keeps (h .words i) bytes ∙ s .words i u);
-          past = s .past;
-          sent = s .sent;
-          history = s .history;
-        };
-        way = inr refl;
-      }
 
   -- what stands at the front of the output is the one writing of the message
   front : (bytes out : List ℕ) (k : ℕ) → putFront bytes out .answer ≡ Wrote k
@@ -232,42 +234,19 @@ module _ (n : ℕ) (lo : fewest ≤ n) (hi : n ≤ most) where
   -- bytes that were sent are heard as the message that they are
   heard-sent : {h : LentHouse} (s : Same n h) (i : ℕ) → i < n → (m : Message) → m ∈ s .house .sent
       → gossipOn (h .words i) (messageBytes m) ≡ lentOf (gossipStep (s .house .book i) m)
+  unfolding gossipOn
   heard-sent {h} s i u m x =
       ap (λ (w : List ℕ). gossipOn w (messageBytes m)) (s .words i u)
-      ∙ gossip-on (s .house .book i) (sound-of s i u) (messageBytes m)
+      ∙ entry-on (s .house .book i) (sound-of s i u) ofGossip (messageBytes m)
       ∙ ap (λ (c : Bool). lentOf
       (cond c (gossipStep (s .house .book i) (messageOf (messageBytes m)))
       (record { reply = refusal 1; book = s .house .book i })))
       (is-true (wellFormed (messageBytes m)) (bytes-well m (fits-of s m x)))
       ∙ ap (λ (y : Message). lentOf (gossipStep (s .house .book i) y)) (message-bytes m (fits-of s m x))
 
-  next-gossip : {h : LentHouse} (s : Same n h) (i : ℕ) → i < n → (bytes : List ℕ) → bytes ∈ h .sent
-      → Next s (lentGossip h i bytes)
-  unfolding lentGossip afterGossip
-  next-gossip {h} s i u bytes x =
-      go (bytes-from (s .house .sent) bytes (subst (λ (l : List (List ℕ)). bytes ∈ l) (s .sent) x))
-    where
-      go : ((m : Message) × (m ∈ s .house .sent) × (bytes ≡ messageBytes m)) → Next s (lentGossip h i bytes)
-      go w =
-          let q = ap (gossipOn (h .words i)) (w .2) ∙ heard-sent s i u (w .0) (w .1) in
-          record {
-            same = record {
-              house = afterGossip (s .house) i (w .0);
-              run = books.onward (s .run) (books.arrives i u (w .0) (w .1));
-              words = put-words n (h .words) (s .house .book) (s .words) i (gossipOn (h .words i) bytes .words)
-                  ((gossipStep (s .house .book i) (w .0)) .book) (ap (λ (o : Lent). o .words) q);
-              past = put-past n (s .house .book) (s .past) i u ((gossipStep (s .house .book i) (w .0)) .book);
-              sent = s .sent;
-              history = s .history;
-            };
-            way = inl (books.arrives i u (w .0) (w .1));
-          }
-
   next : {h h′ : LentHouse} (s : Same n h) → LentStep n h h′ → Next s h′
-  next s (tap i u bytes) = next-tap s i u bytes
-  next s (question i u bytes) = next-question s i u bytes
+  next s (hears i u e bytes may) = next-request s i u e bytes may
   next s (sends i u out k e) = next-send s i u out k e
-  next s (arrives i u bytes x) = next-gossip s i u bytes x
 
   -- each screen opened, on any slice of the one length
   fresh-words : (ws : List ℕ) (i : ℕ) → length ws ≡ bookLong → i < n → openOn ws i n .words ≡ wordsOf (fresh i n)
@@ -297,6 +276,7 @@ module _ (n : ℕ) (lo : fewest ≤ n) (hi : n ≤ most) where
       → T (permits (questionOn (h .words i) bytes .reply))
       → questionOn (h .words i) bytes .reply
       ≡ answerAt (s .house) i (promptIn (h .words i) bytes) (labelIn (h .words i) bytes)
+  unfolding questionOn
   asked-book {h} s i u bytes y =
       go (readable (questionKind (b .screens)) bytes) refl
       ∙ ap (λ (x : Book). (ask b (getD (lineOf (questionKind (x .screens)) bytes) 1 0)
@@ -313,7 +293,7 @@ module _ (n : ℕ) (lo : fewest ≤ n) (hi : n ≤ most) where
           → questionOn (h .words i) bytes .reply ≡ cond c answered (record { reply = refusal 1; book = b }) .reply
       comes c e =
           ap (λ (w : List ℕ). questionOn w bytes .reply) (s .words i u)
-          ∙ ap (λ (o : Lent). o .reply) (question-on b (sound-of s i u) bytes)
+          ∙ ap (λ (o : Lent). o .reply) (entry-on b (sound-of s i u) ofQuestion bytes)
           ∙ ap (λ (d : Bool). cond d answered (record { reply = refusal 1; book = b }) .reply) e
 
       go : (c : Bool) → readable (questionKind (b .screens)) bytes ≡ c

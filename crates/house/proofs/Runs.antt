@@ -3,8 +3,8 @@ use Prim.Native.Nat.{ℕ, _≤_, _<_, suc}
 use native.Mathlib.Omega.{arith}
 use mathlib.Core.Path.{refl, _≡_, fun-ext, _∙_, ap, sym, ap₂, subst}
 use mathlib.Core.Logic.{inl, inr, _⊎_, _≢_}
-use mathlib.Core.Bool.{not, Bool, cond}
-use mathlib.Core.List.{[], List, _∷_, List·Memᴰ·cases-cons}
+use mathlib.Core.Bool.{not, Bool, true, false, cond}
+use mathlib.Core.List.{[], List, _∷_, _++_, List·Memᴰ·cases-cons}
 use lib.Dec.{T}
 use lib.ListN.{getD, length}
 use Rattle.lists.specs.TestLaws.{none-in, either, is-false, here, there, _∈_}
@@ -22,13 +22,15 @@ use Rattle.meaning.specs.Book.{fresh, known, ready, row, Book}
 use Rattle.meaning.specs.Reply.{taken, Reply, isTaken}
 use Rattle.meaning.specs.SettleLaws.{value-old}
 use Rattle.meaning.specs.BookLaws.{fresh-sound, fresh-known, fresh-row, send-fits}
-use Rattle.meaning.specs.Step.{tapStep, Outcome, newRecord, ownRows, takeBook, takeOut, send, gossipStep, gossipRows}
-use Rattle.meaning.specs.Step.{newOnes, hearBook, hearOut}
+use Rattle.meaning.specs.Request.{Request, tapped, asked, told, makes, step}
+use Rattle.meaning.specs.Step.{tapStep, Outcome, newRecord, ownRows, takeBook, takeOut, ask, send}
+use Rattle.meaning.specs.Step.{gossipRows, newOnes, hearBook, hearOut}
 use Rattle.meaning.specs.StepLaws.{Stopped, TakeDone, take-ready, new-origin, own-now, own-row, GossipDone}
 use Rattle.meaning.specs.StepLaws.{gossip-ready, new-ones, gossip-now, gossip-row, tap-cases, gossip-cases}
-use Rattle.house.specs.House.{openHouse, House, put, grown, tap, Step, afterRequest, afterTap, question}
-use Rattle.house.specs.House.{afterQuestion, afterSend, afterGossip, onward, sends, arrives, Run, opened}
-use Rattle.house.proofs.Invariant.{ScreenOk, Inv, put-either, Onward, knownOf, SentOk, screen-mono, advance, known-grows}
+use Rattle.house.specs.House.{openHouse, House, put, grown, MayCome, Step, asks, sends, afterRequest, afterSend}
+use Rattle.house.specs.House.{onward, Run, opened}
+use Rattle.house.proofs.Invariant.{ScreenOk, Inv, put-either, Onward, knownOf, SentOk, screen-mono, advance}
+use Rattle.house.proofs.Invariant.{known-grows}
 
 screen-fresh : (n : ℕ) → fewest ≤ n → n ≤ most → (i : ℕ) → i < n
     → ScreenOk n (λ k. known (fresh k n)) [] [] i (fresh i n)
@@ -69,25 +71,35 @@ put-same : (books : ℕ → Book) (i : ℕ) → put books i (books i) ≡ books
 put-same books i = fun-ext
     (λ k. either (put-either books i (books i) k) (λ e. e .1 ∙ ap books (sym (e .0))) (λ e. e .1))
 
-grown-not : (r : Reply) (x : Record) (hs : List Record) → T (not (isTaken r)) → grown r x hs ≡ hs
+grown-not : (r : Reply) (made hs : List Record) → T (not (isTaken r)) → grown r made hs ≡ hs
 unfolding grown
-grown-not r x hs t = ap (λ (c : Bool). cond c (x ∷ hs) hs) (is-false (isTaken r) t)
+grown-not r made hs t = ap (λ (c : Bool). cond c (made ++ hs) hs) (is-false (isTaken r) t)
 
-grown-taken : (s : Stamp) (x : Record) (hs : List Record) → grown (taken s) x hs ≡ x ∷ hs
+grown-none : (r : Reply) (hs : List Record) → grown r [] hs ≡ hs
+unfolding grown
+grown-none r hs = go (isTaken r)
+  where
+    go : (c : Bool) → cond c hs hs ≡ hs
+    go true = refl
+    go false = refl
+
+grown-taken : (s : Stamp) (x : Record) (hs : List Record) → grown (taken s) (x ∷ []) hs ≡ x ∷ hs
 unfolding grown
 grown-taken s x hs = refl
 
 abbrev pub houseOf : (ℕ → Book) → List Message → List Record → House
 houseOf books sent history = record { book = books; sent = sent; history = history }
 
--- a request that is stopped, and one that is taken
-request-stays :
-    (h : House) (i : ℕ) (x : Record) (o : Outcome) → Stopped (h .book i) o → afterRequest h i o x ≡ h
-unfolding afterRequest
-request-stays h i x o w =
-    ap (λ (z : Outcome). houseOf (put (h .book) i (z .book)) (h .sent) (grown (z .reply) x (h .history))) (w .2)
+-- what a request that makes these records comes to
+abbrev reached : House → ℕ → List Record → Outcome → House
+reached h i made o = houseOf (put (h .book) i (o .book)) (h .sent) (grown (o .reply) made (h .history))
+
+-- one that is stopped leaves the house as it was
+reached-stays : (h : House) (i : ℕ) (made : List Record) (o : Outcome) → Stopped (h .book i) o → reached h i made o ≡ h
+reached-stays h i made o w =
+    ap (reached h i made) (w .2)
     ∙ ap₂ (λ (books : ℕ → Book) (hs : List Record). houseOf books (h .sent) hs) (put-same (h .book) i)
-    (grown-not (w .0) x (h .history) (w .1))
+    (grown-not (w .0) made (h .history) (w .1))
 
 abbrev pub taken-house : House → ℕ → Body → Stamp → House
 taken-house h i x l =
@@ -97,34 +109,32 @@ taken-house h i x l =
       history = newRecord (h .book i) x l ∷ h .history;
     }
 
-request-goes :
-    (h : House) (i : ℕ) (x : Body) (l : Stamp) (o : Outcome) → o ≡ takeOut (h .book i) x l
-    → afterRequest h i o (newRecord (h .book i) x l) ≡ taken-house h i x l
-unfolding afterRequest
-request-goes h i x l o e =
+took-house : (h : House) (i : ℕ) (x : Body) (l : Stamp)
+    → reached h i (newRecord (h .book i) x l ∷ []) (takeOut (h .book i) x l) ≡ taken-house h i x l
+took-house h i x l =
     let r : Record = newRecord (h .book i) x l in
-    ap (λ (z : Outcome). houseOf (put (h .book) i (z .book)) (h .sent) (grown (z .reply) r (h .history))) e
-    ∙ ap (λ (hs : List Record). houseOf (put (h .book) i (takeBook (h .book i) x l)) (h .sent) hs)
+    ap (λ (hs : List Record). houseOf (put (h .book) i (takeBook (h .book i) x l)) (h .sent) hs)
     (grown-taken (stampOf r) r (h .history))
 
-pub question-stays : (h : House) (i p : ℕ) (l : Stamp) → afterQuestion h i p l ≡ h
-unfolding afterQuestion
+-- so does one that makes no record and leaves the book
+kept-stays : (h : House) (i : ℕ) (r : Reply) → reached h i [] (record { reply = r; book = h .book i }) ≡ h
+kept-stays h i r =
+    ap₂ (λ (books : ℕ → Book) (hs : List Record). houseOf books (h .sent) hs) (put-same (h .book) i)
+    (grown-none r (h .history))
+
+question-stays : (h : House) (i p : ℕ) (l : Stamp) → reached h i [] (ask (h .book i) p l) ≡ h
 question-stays h i p l =
-    ap (λ (books : ℕ → Book). houseOf books (h .sent) (h .history))
-    (ap (put (h .book) i) (ask-keeps (h .book i) p l) ∙ put-same (h .book) i)
+    let o = ask (h .book i) p l in
+    ap (λ (b : Book). reached h i [] (record { reply = o .reply; book = b })) (ask-keeps (h .book i) p l)
+    ∙ kept-stays h i (o .reply)
 
-pub gossip-stays : (h : House) (i : ℕ) (m : Message) (r : Reply)
-    → gossipStep (h .book i) m ≡ record { reply = r; book = h .book i } → afterGossip h i m ≡ h
-unfolding afterGossip
-gossip-stays h i m r e =
-    ap (λ (o : Outcome). houseOf (put (h .book) i (o .book)) (h .sent) (h .history)) e
-    ∙ ap (λ (books : ℕ → Book). houseOf books (h .sent) (h .history)) (put-same (h .book) i)
+abbrev heard-house : House → ℕ → Message → House
+heard-house h i m = houseOf (put (h .book) i (hearBook (h .book i) m)) (h .sent) (h .history)
 
-pub gossip-goes :
-    (h : House) (i : ℕ) (m : Message) → gossipStep (h .book i) m ≡ hearOut (h .book i) m
-    → afterGossip h i m ≡ houseOf (put (h .book) i (hearBook (h .book i) m)) (h .sent) (h .history)
-unfolding afterGossip
-gossip-goes h i m e = ap (λ (o : Outcome). houseOf (put (h .book) i (o .book)) (h .sent) (h .history)) e
+told-house : (h : House) (i : ℕ) (m : Message) → reached h i [] (hearOut (h .book i) m) ≡ heard-house h i m
+told-house h i m =
+    ap (λ (hs : List Record). houseOf (put (h .book) i (hearBook (h .book i) m)) (h .sent) hs)
+    (grown-none ((hearOut (h .book i) m) .reply) (h .history))
 
 -- a body that is taken
 pub take-onward :
@@ -296,29 +306,29 @@ pub data Course (n : ℕ) (h : House) : House → Type 0 where
   sent-one : (i : ℕ) → i < n → Course n h (afterSend h i)
   took :
       (i : ℕ) → i < n → (x : Body) (l : Stamp) → TakeDone (h .book i) x l → Course n h (taken-house h i x l)
-  heard :
-      (i : ℕ) → i < n → (m : Message) → m ∈ h .sent → GossipDone (h .book i) m
-      → Course n h (houseOf (put (h .book) i (hearBook (h .book i) m)) (h .sent) (h .history))
+  heard : (i : ℕ) → i < n → (m : Message) → m ∈ h .sent → GossipDone (h .book i) m → Course n h (heard-house h i m)
 
--- any request is stopped or taken
-request :
-    (n : ℕ) {h : House} (i : ℕ) → i < n → (x : Body) (l : Stamp) (o : Outcome)
-    → Stopped (h .book i) o ⊎ (TakeDone (h .book i) x l × (o ≡ takeOut (h .book i) x l))
-    → Course n h (afterRequest h i o (newRecord (h .book i) x l))
-request n {h} i u x l o c =
-    either c
-    (λ w. subst (λ (z : House). Course n h z) (sym (request-stays h i (newRecord (h .book i) x l) o w)) stays)
-    (λ w. subst (λ (z : House). Course n h z) (sym (request-goes h i x l o (w .1))) (took i u x l (w .0)))
+-- a request is stopped and leaves the house as it was, or goes its own way
+either-course : (n : ℕ) {h h′ h″ : House} {S D : Type 0} → S ⊎ D → (S → h′ ≡ h) → (D → h′ ≡ h″) → (D → Course n h h″)
+    → Course n h h′
+either-course n {h} c s e d =
+    either c (λ w. subst (Course n h) (sym (s w)) stays) (λ w. subst (Course n h) (sym (e w)) (d w))
+
+request-course : (n : ℕ) {h : House} (i : ℕ) → i < n → (r : Request) → MayCome h r
+    → Course n h (reached h i (makes (h .book i) r) (step (h .book i) r))
+request-course n {h} i u (tapped t l) c =
+    let made = newRecord (h .book i) (says t) l ∷ [] in
+    either-course n (tap-cases (h .book i) t l) (reached-stays h i made (tapStep (h .book i) t l))
+    (λ w. ap (reached h i made) (w .1) ∙ took-house h i (says t) l) (λ w. took i u (says t) l (w .0))
+request-course n {h} i u (asked p l) c = subst (Course n h) (sym (question-stays h i p l)) stays
+request-course n {h} i u (told m) c =
+    either-course n (gossip-cases (h .book i) m) (λ w. ap (reached h i []) (w .2) ∙ kept-stays h i (w .0))
+    (λ w. ap (reached h i []) (w .1) ∙ told-house h i m) (λ w. heard i u m c (w .0))
 
 pub course : (n : ℕ) {h h′ : House} → Step n h h′ → Course n h h′
-unfolding afterTap
-course n {h} (tap i u t l) = request n i u (says t) l (tapStep (h .book i) t l) (tap-cases (h .book i) t l)
-course n {h} (question i u p l) = subst (λ (x : House). Course n h x) (sym (question-stays h i p l)) stays
+unfolding afterRequest
+course n (asks i u r c) = request-course n i u r c
 course n (sends i u) = sent-one i u
-course n {h} (arrives i u m x) =
-    either (gossip-cases (h .book i) m)
-    (λ w. subst (λ (y : House). Course n h y) (sym (gossip-stays h i m (w .0) (w .2))) stays)
-    (λ w. subst (λ (y : House). Course n h y) (sym (gossip-goes h i m (w .1))) (heard i u m x (w .0)))
 
 course-inv : (n : ℕ) {h h′ : House} → Inv n h → Course n h h′ → Inv n h′
 unfolding takeBook hearBook

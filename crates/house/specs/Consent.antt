@@ -47,8 +47,7 @@ isDouble t u = all (doubleRules t u)
 
 pub record Consent (n : ℕ) (h : House) : Type 0 where
   -- Permission says yes on a screen for a prompt, at any label, a label of zeros too. Then every decline of that prompt
-  -- applied
-  -- on that screen, whoever tapped it, is of a showing below the answered one.
+  -- applied on that screen, whoever tapped it, is of a showing below the answered one.
   pub applied-below :
       (i : ℕ) → i < n → (p : ℕ) (l : Stamp) → T (permits (answerAt h i p l))
       → (t : Tap) → Applied h i t → t .prompt ≡ p → t .answer ≡ decline → t .showing < showingOf (answerAt h i p l)
@@ -63,8 +62,7 @@ pub record Consent (n : ℕ) (h : House) : Type 0 where
       (i : ℕ) → i < n → (p : ℕ) (l : Stamp) → T (permits (answerAt h i p l))
       → (t : Tap) × Applied h i t × (t .prompt ≡ p) × (t .answer ≡ accept) × (t .showing ≡ showingOf (answerAt h i p l))
   -- A double tap kept as accept and decline, both applied and of the highest showing: the verdict is Contested, and
-  -- Permission
-  -- is no at every label.
+  -- Permission is no at every label.
   pub double-contested :
       (i : ℕ) → i < n → (t u : Tap) → T (isDouble t u) → Applied h i t → Applied h i u → T (isLatest h i t)
       → T (isLatest h i u)

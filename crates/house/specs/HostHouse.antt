@@ -1,28 +1,35 @@
 -- The runs of a house that a host drives by `answer` alone, each step one call with any bytes and any output, and what
--- holds of them.
--- Assumes nothing.
+-- holds of them. Assumes nothing.
 use Prim.Native.Nat.{ℕ, _<_}
 use mathlib.Core.Path.{_≡_}
 use mathlib.Core.Logic.{_⊎_}
 use mathlib.Core.Bool.{cond}
-use mathlib.Core.List.{List, _∷_, List·Memᴰ}
+use mathlib.Core.List.{List, [], _∷_, _++_, List·Memᴰ}
 use lib.Dec.{T, eqb}
 use lib.ListN.{length, take}
-use Rattle.lent.specs.Words.{bookLong}
+use Rattle.ledger.specs.Record.{Record}
+use Rattle.wire.specs.Kinds.{headNumber, takenNumber}
 use Rattle.message.specs.Message.{wellFormed}
-use Rattle.answer.specs.Answer.{kindSaid, answerOn}
+use Rattle.lent.specs.Words.{bookLong}
+use Rattle.promise.specs.Lent.{Entry}
+use Rattle.answer.specs.Answer.{kindIn, lineFor, entries, kindSaid, answerOn}
 use Rattle.house.specs.House.{put, Step}
-use Rattle.house.specs.LentHouse.{LentHouse, openLent, recordFor, held, LentDemand}
+use Rattle.house.specs.LentHouse.{LentHouse, openLent, madeBy, held, LentDemand}
 
--- after a call on screen i: a reply of kind 1 is gossip that the screen has sent, a reply of kind 5 says that the tap
--- is taken
+-- the records that bytes make where they are taken, by the entry of their kind
+abbrev pub madeIn : List Entry → List ℕ → List ℕ → List Record
+madeIn [] ws bytes = []
+madeIn (e ∷ es) ws bytes = cond (eqb (kindIn bytes) (lineFor e .number)) (madeBy e ws bytes) (madeIn es ws bytes)
+
+-- after a call on screen i: a reply of kind 1 is gossip that the screen has sent, a reply of kind 5 says that the bytes
+-- are taken
 unfoldable pub afterCall : LentHouse → ℕ → List ℕ → List ℕ → LentHouse
 afterCall h i bytes out =
     let a = answerOn (h .words i) bytes out in
     record {
       words = put (h .words) i (a .words);
-      sent = cond (eqb (kindSaid a) 1) (take (a .long) (a .bytes) ∷ h .sent) (h .sent);
-      history = cond (eqb (kindSaid a) 5) (recordFor (h .words i) bytes ∷ h .history) (h .history);
+      sent = cond (eqb (kindSaid a) headNumber) (take (a .long) (a .bytes) ∷ h .sent) (h .sent);
+      history = cond (eqb (kindSaid a) takenNumber) (madeIn entries (h .words i) bytes ++ h .history) (h .history);
     }
 
 -- One call: any bytes at any screen, damaged and truncated ones too, and any output. Only well-formed gossip has to be

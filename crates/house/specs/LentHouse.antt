@@ -1,6 +1,5 @@
 -- The runs of a house whose books are lent slices and whose messages are bytes: the steps are what the operations
--- promise.
--- Assumes nothing.
+-- promise. Assumes nothing.
 use Prim.Native.Nat.{ℕ, _<_}
 use mathlib.Core.Path.{_≡_}
 use mathlib.Core.Logic.{_⊎_}
@@ -8,17 +7,15 @@ use mathlib.Core.Bool.{cond}
 use mathlib.Core.List.{List, [], _∷_, map, List·Memᴰ}
 use lib.Dec.{T, ltb}
 use lib.ListN.{length, take}
-use Rattle.tally.specs.Body.{says}
 use Rattle.ledger.specs.Record.{Record}
-use Rattle.wire.specs.Kinds.{tapKind, tapAt, stampAt}
-use Rattle.wire.specs.Read.{lineOf}
 use Rattle.wire.specs.declared.Written.the-variants.{Wrote}
-use Rattle.message.specs.Message.{messageOf}
+use Rattle.message.specs.Message.{wellFormed, messageOf}
 use Rattle.meaning.specs.Book.{fresh}
 use Rattle.meaning.specs.Reply.{permits}
-use Rattle.meaning.specs.Step.{newRecord}
+use Rattle.meaning.specs.Request.{makes}
 use Rattle.lent.specs.Words.{bookLong, bookOf, lawful}
-use Rattle.promise.specs.Lent.{tapOn, promptIn, labelIn, questionOn, gossipOn, sendOn, openOn}
+use Rattle.promise.specs.Lent.{Entry, ofGossip, ofTap, ofQuestion, requestIn, entryOn}
+use Rattle.promise.specs.Lent.{promptIn, labelIn, questionOn, gossipOn, sendOn, openOn}
 use Rattle.house.specs.Consent.{answerAt, Consent}
 use Rattle.house.specs.Demand.{HeardAs, Demand}
 use Rattle.house.specs.House.{House, put, grown, Step}
@@ -32,43 +29,37 @@ pub record LentHouse : Type 0 where
 unfoldable pub openLent : (ℕ → List ℕ) → ℕ → LentHouse
 openLent lent n = record { words = λ i. openOn (lent i) i n .words; sent = []; history = [] }
 
--- the record that a tap's bytes become when they are taken
-unfoldable pub recordFor : List ℕ → List ℕ → Record
-recordFor ws bytes =
-    let line = lineOf (tapKind (bookOf ws .screens)) bytes in
-    newRecord (bookOf ws) (says (tapAt 1 line)) (stampAt 6 line)
+-- the records that an entry's bytes make where they are taken
+abbrev pub madeBy : Entry → List ℕ → List ℕ → List Record
+madeBy e ws bytes = makes (bookOf ws) (requestIn e (bookOf ws) bytes)
 
-unfoldable pub lentTap : LentHouse → ℕ → List ℕ → LentHouse
-lentTap h i bytes =
+unfoldable pub lentRequest : LentHouse → ℕ → Entry → List ℕ → LentHouse
+lentRequest h i e bytes =
+    let o = entryOn e (h .words i) bytes in
     record {
-      words = put (h .words) i (tapOn (h .words i) bytes .words);
+      words = put (h .words) i (o .words);
       sent = h .sent;
-      history = grown (tapOn (h .words i) bytes .reply) (recordFor (h .words i) bytes) (h .history);
+      history = grown (o .reply) (madeBy e (h .words i) bytes) (h .history);
     }
-
-unfoldable pub lentQuestion : LentHouse → ℕ → List ℕ → LentHouse
-lentQuestion h i bytes =
-    record { words = put (h .words) i (questionOn (h .words i) bytes .words); sent = h .sent; history = h .history }
 
 -- the first k bytes of an output that send has written are a message of the house
 unfoldable pub lentSend : LentHouse → ℕ → List ℕ → ℕ → LentHouse
 lentSend h i out k = record
     { words = h .words; sent = take k (sendOn (h .words i) out .bytes) ∷ h .sent; history = h .history }
 
-unfoldable pub lentGossip : LentHouse → ℕ → List ℕ → LentHouse
-lentGossip h i bytes = record
-    { words = put (h .words) i (gossipOn (h .words i) bytes .words); sent = h .sent; history = h .history }
+-- any bytes may come at any entry of any screen, but well-formed gossip only as it was sent: late, twice, out of order
+-- or never
+abbrev pub MayCome : LentHouse → Entry → List ℕ → Type 0
+MayCome h ofGossip bytes = T (wellFormed bytes) → List·Memᴰ bytes (h .sent)
+MayCome h ofTap bytes = Unit {0}
+MayCome h ofQuestion bytes = Unit {0}
 
--- One step of a house of n screens: any bytes as a tap, any bytes as a question, a send into any output that is long
--- enough, or
--- gossip once sent, which may arrive at any screen late, twice, out of order or never.
+-- one step of a house of n screens: bytes at an entry of a screen, or a send into any output that is long enough
 pub data LentStep (n : ℕ) : LentHouse → LentHouse → Type 0 where
-  tap : {h : LentHouse} (i : ℕ) → i < n → (bytes : List ℕ) → LentStep n h (lentTap h i bytes)
-  question : {h : LentHouse} (i : ℕ) → i < n → (bytes : List ℕ) → LentStep n h (lentQuestion h i bytes)
+  hears : {h : LentHouse} (i : ℕ) → i < n → (e : Entry) (bytes : List ℕ) → MayCome h e bytes
+      → LentStep n h (lentRequest h i e bytes)
   sends : {h : LentHouse} (i : ℕ) → i < n → (out : List ℕ) (k : ℕ) → sendOn (h .words i) out .answer ≡ Wrote k
       → LentStep n h (lentSend h i out k)
-  arrives : {h : LentHouse} (i : ℕ) → i < n → (bytes : List ℕ) → List·Memᴰ bytes (h .sent)
-      → LentStep n h (lentGossip h i bytes)
 
 -- a run: each screen opened once, with its own number, on any slice of the one length; then any steps
 pub data LentRun (n : ℕ) : LentHouse → Type 0 where

@@ -9,7 +9,8 @@ use Rattle.lists.specs.Tests.{keep, numbers}
 use Rattle.limits.specs.Limits.{word, parts}
 use Rattle.stamp.specs.Stamp.{Stamp, stampFits}
 use Rattle.ledger.specs.Log.{unknowns, waitingIn, remaining}
-use Rattle.ledger.specs.Record.{Record, place, stampOf, knows, isKnown, isApplied, isWaiting, everywhere, mayGo, recordFits}
+use Rattle.ledger.specs.Record.{Record, place, stampOf, knows, isKnown, isApplied, isWaiting, everywhere, mayGo}
+use Rattle.ledger.specs.Record.{recordFits}
 
 -- a stamp by its first parts, and the places of some records: origin, number, one after the other
 abbrev pub at : ℕ → ℕ → ℕ → Stamp

@@ -7,7 +7,9 @@ use mathlib.Core.Bool.{not, _&&_, Bool, true, false, _||_}
 use mathlib.Core.List.{List, [], _∷_, List·Memᴰ·cases-cons}
 use lib.Dec.{T, ltb, ltb→lt, nltb→le, eqb}
 use lib.ListN.{getD, length}
-use Rattle.lists.specs.TestLaws.{there, here, _∈_, keep-mem, mem-keep, not-from, and-l, both, either, tell, keep-le, bit, keep-keep-le, keep-share, or-cases, allBelow-at, allBelow-from, or-l, or-r, and-r, none-in}
+use Rattle.lists.specs.TestLaws.{there, here, _∈_, keep-mem, mem-keep, not-from, and-l, both, either, tell, keep-le}
+use Rattle.lists.specs.TestLaws.{bit, keep-keep-le, keep-share, or-cases, allBelow-at, allBelow-from, or-l, or-r, and-r}
+use Rattle.lists.specs.TestLaws.{none-in}
 use Rattle.lists.specs.Order.{rising, keyBefore}
 use Rattle.lists.specs.Sorted.{Put, head-before, tail-rising, put-all, keep-rising}
 use Rattle.lists.specs.Tests.{keep, allBelow}

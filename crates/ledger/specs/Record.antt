@@ -2,7 +2,7 @@
 -- Assumes nothing.
 use Prim.Native.Nat.{ℕ}
 use mathlib.Core.Bool.{Bool, not, _&&_}
-use mathlib.Core.List.{List, [], _∷_}
+use mathlib.Core.List.{List, [], _∷_, _++_}
 use lib.Dec.{leb, ltb, eqb}
 use Rattle.lists.specs.Tests.{all, every, exists}
 use Rattle.stamp.specs.Stamp.{Stamp, part, atMost, replace, stampFits}
@@ -48,11 +48,13 @@ mayGo y rows r = isApplied y r && everywhere rows (r .origin) (r .number)
 unfoldable pub has : List Record → ℕ → ℕ → Bool
 has rs k q = exists (λ r. eqb (r .origin) k && eqb (r .number) q) rs
 
--- the field rules of a record in a house of n screens; `bodyFits` is the rule of its body
+-- the field rules of a record in a house of n screens: those of its origin k, number q and label, and `bodyFits`, the
+-- rule of its body
+abbrev pub labelRules : ℕ → ℕ → ℕ → Stamp → List Bool
+labelRules n k q label = ltb k n ∷ leb 1 q ∷ ltb (part label k) q ∷ stampFits n label ∷ []
+
 abbrev pub recordRules : (ℕ → Bool) → ℕ → Record → List Bool
-recordRules bodyFits n r =
-    ltb (r .origin) n ∷ leb 1 (r .number) ∷ ltb (part (r .label) (r .origin)) (r .number) ∷ stampFits n (r .label)
-    ∷ bodyFits (r .body) ∷ []
+recordRules bodyFits n r = labelRules n (r .origin) (r .number) (r .label) ++ bodyFits (r .body) ∷ []
 
 unfoldable pub recordFits : (ℕ → Bool) → ℕ → Record → Bool
 recordFits bodyFits n r = all (recordRules bodyFits n r)

@@ -11,7 +11,8 @@ use Rattle.lists.specs.ElementLaws.{eq→eqb}
 use Rattle.limits.specs.Limits.{parts, word}
 use Rattle.stamp.specs.Laws.{Covers, atMost-parts, parts-atMost, Fits, fits, part-replaced, part-either, fits-replace}
 use Rattle.stamp.specs.Stamp.{Stamp, part, atMost}
-use Rattle.ledger.specs.Record.{Record, isKnown, knows, isApplied, isWaiting, everywhere, mayGo, has, recordFits, recordRules, stampOf}
+use Rattle.ledger.specs.Record.{Record, isKnown, knows, isApplied, isWaiting, everywhere, mayGo, has, recordFits}
+use Rattle.ledger.specs.Record.{recordRules, stampOf}
 
 pub known-le : (s : Stamp) (r : Record) → T (isKnown s r) → r .number ≤ part s (r .origin)
 unfolding isKnown knows

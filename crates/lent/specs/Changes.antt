@@ -32,7 +32,8 @@ use Rattle.lent.specs.Held.{Held, piece-words, put-value, put-log, put-t
 use Rattle.lent.specs.Lay.{store-put}
 use Rattle.lent.specs.Rows.{patch-within, row-words, row-within, row-long, put-row}
 use Rattle.lent.specs.With.{withTable, withValue, withLog, withCounted, withPrompts}
-use Rattle.lent.specs.Words.{Logged, Taps, Table, Value, Log, Counted, Prompts, size, from, piece, bookOf, wordsOf}
+use Rattle.lent.specs.Words.{Logged, Taps, Table, Value, Log, Counted, Prompts, size, from, piece, bookOf}
+use Rattle.lent.specs.Words.{wordsOf}
 use Rattle.lent.specs.WordsLaws.{records-back}
 
 -- the tap of a word is not counted, and can be put among the counted ones

@@ -22,7 +22,8 @@ use Rattle.meaning.specs.Book.{Book}
 use Rattle.lent.specs.Lay.{putIn, put-lay, put-counted, piece-in, number-word}
 use Rattle.lent.specs.Shape.{Shape}
 use Rattle.lent.specs.With.{withTable, withValue, withLog, withCounted, withPrompts}
-use Rattle.lent.specs.Words.{Name, Screen, Screens, Logged, Taps, Table, Value, Log, Counted, Prompts, size, from, bookLong, piece, lay, wordsAt, tableWords, wordsOf, bookOf}
+use Rattle.lent.specs.Words.{Name, Screen, Screens, Logged, Taps, Table, Value, Log, Counted, Prompts, size, from}
+use Rattle.lent.specs.Words.{bookLong, piece, lay, wordsAt, tableWords, wordsOf, bookOf}
 use Rattle.lent.specs.WordsLaws.{shape-long, words-laid, piece-back, book-words, words-shaped}
 
 -- the words are those of a book of the right shape

@@ -19,7 +19,8 @@ use lib.Seq.{set-split, set-append-left, take-set-lt, drop-set-lt, getD-take, ge
 use Rattle.lists.specs.Part.{mid, patch, length-mid}
 use Rattle.lists.specs.Pieces.{sumOf, flat-long, all-parts, piece-ends, piece-at, piece-put}
 use Rattle.lists.specs.Rows.{flat}
-use Rattle.lent.specs.Words.{Name, Screen, Screens, Logged, Taps, Table, Value, Log, Counted, Prompts, Words, tag, order, size, sizes, placeOf, place, from, bookLong, piece, numberIn, lay}
+use Rattle.lent.specs.Words.{Name, Screen, Screens, Logged, Taps, Table, Value, Log, Counted, Prompts, Words, tag}
+use Rattle.lent.specs.Words.{order, size, sizes, placeOf, place, from, bookLong, piece, numberIn, lay}
 
 -- a name stands at its place, each once
 pub at-place : {A : Type 0} (f : Name → A) (d : A) (n : Name) → getD (map f order) (place n) d ≡ f n

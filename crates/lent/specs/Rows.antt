@@ -8,8 +8,10 @@ use native.Mathlib.Nat.{zero-mul, suc-mul}
 use native.Mathlib.Omega.{arith}
 use mathlib.Core.Path.{_≡_, refl, sym, ap, _∙_}
 use mathlib.Core.List.{List, [], _∷_, _++_, append-assoc}
-use lib.ListN.{length, getD, set, take, drop, replicate, length-set, length-take, length-drop, take-append-drop, List·getD-map}
-use lib.Seq.{drop-at, take-add, take-take, drop-drop, drop-append-le, take-append-add, drop-append-add, getD-take, getD-drop}
+use lib.ListN.{length, getD, set, take, drop, replicate, length-set, length-take, length-drop, take-append-drop}
+use lib.ListN.{List·getD-map}
+use lib.Seq.{drop-at, take-add, take-take, drop-drop, drop-append-le, take-append-add, drop-append-add, getD-take}
+use lib.Seq.{getD-drop}
 use Rattle.lists.specs.Part.{mid, patch, length-mid, mid-mid}
 use Rattle.lists.specs.RowLaws.{Wide, rows-at}
 use Rattle.lists.specs.Rows.{rows, flat}
@@ -23,7 +25,8 @@ use Rattle.log.specs.RegionLaws.{length-records}
 use Rattle.meaning.specs.Book.{row}
 use Rattle.lent.specs.Held.{Held, piece-within, piece-words, put-table}
 use Rattle.lent.specs.With.{withTable}
-use Rattle.lent.specs.Words.{Screens, Logged, Table, Log, size, from, piece, numberIn, tableWords, wordsOf, bookOf}
+use Rattle.lent.specs.Words.{Screens, Logged, Table, Log, size, from, piece, numberIn, tableWords, wordsOf}
+use Rattle.lent.specs.Words.{bookOf}
 
 -- what stands past the end of a log
 abbrev pub noRecord : Record

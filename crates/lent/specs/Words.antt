@@ -1,6 +1,5 @@
 -- A book on a slice of numbers of one fixed length: its pieces, one after the other. Each content has one layout,
--- unused places
--- zero. A new piece is a name, its tag, its entry in `pieceOf` and its place in `order`. Assumes nothing.
+-- unused places zero. A new piece is a name, its tag, its entry in `pieceOf` and its place in `order`. Assumes nothing.
 use Prim.Native.Nat.{ℕ, suc, _-_, _*_}
 use mathlib.Core.Bool.{Bool, true, _&&_, cond}
 use mathlib.Core.List.{List, [], _∷_, _++_, map}
@@ -19,8 +18,7 @@ use Rattle.meaning.specs.Book.{Book, sound}
 use Rattle.lent.specs.With.{noBook, withMe, withScreens, withTable, withValue, withLog, withCounted, withPrompts}
 
 -- the pieces' names: i, N, how many records the log has, how many taps are counted; the table, the value stamp, the
--- log, the
--- counted taps, the prompts
+-- log, the counted taps, the prompts
 pub data Name : Type 0 where
   Screen Screens Logged Taps Table Value Log Counted Prompts : Name
 

@@ -1,6 +1,5 @@
 -- Laws, piece by piece: a book of the right shape is read back from its words, and words of the right shape are those
--- of the book
--- that they hold. Assumes nothing.
+-- of the book that they hold. Assumes nothing.
 --     words-book   words in shape are those of the book that they hold
 --     book-words   a book of the right shape is the one that its words hold
 --     words-shaped the words of such a book are in shape
@@ -33,7 +32,9 @@ use Rattle.prompts.specs.RegionLaws.{standings-words, words-standings, length-w
 use Rattle.meaning.specs.Book.{Book}
 use Rattle.lent.specs.Lay.{at-place, Laid, lengths, piece-lay, lay-pieces, piece-long}
 use Rattle.lent.specs.Shape.{Shape}
-use Rattle.lent.specs.Words.{Name, Screen, Screens, Logged, Taps, Table, Value, Log, Counted, Prompts, pieceOf, order, size, place, bookLong, piece, numberIn, lay, wordsAt, fill, tableWords, zeroFrom, wordsOf, bookOf, shapeRules, inShape}
+use Rattle.lent.specs.Words.{Name, Screen, Screens, Logged, Taps, Table, Value, Log, Counted, Prompts, pieceOf}
+use Rattle.lent.specs.Words.{order, size, place, bookLong, piece, numberIn, lay, wordsAt, fill, tableWords}
+use Rattle.lent.specs.Words.{zeroFrom, wordsOf, bookOf, shapeRules, inShape}
 
 -- the table's words
 length-table : (rs : List Stamp) → Wide parts rs → length rs ≤ most → length (tableWords rs) ≡ most * parts

@@ -48,7 +48,8 @@ ghost use Rattle.lent.specs.Held.{Held};
 ghost use Rattle.lent.specs.Rows.{noRecord};
 ghost use Rattle.lent.specs.Changes.{Insertable};
 ghost use Rattle.lent.specs.With.{withTable, withValue, withLog, withCounted, withPrompts};
-ghost use Rattle.lent.specs.Words.{Logged, Table, Value, Log, Counted, Prompts, size, from, bookLong, piece, bookOf, wordsOf};
+ghost use Rattle.lent.specs.Words.{Logged, Table, Value, Log, Counted, Prompts, size, from, bookLong, piece};
+ghost use Rattle.lent.specs.Words.{bookOf, wordsOf};
 
 // Screen i, and N.
 pub const SCREEN: usize = 0;

@@ -1,6 +1,5 @@
 -- One page of numbers: every limit of the house, of a stamp, of the book and of a tap, each once; lengths are worked
--- out from them
--- where they are used. Assumes nothing.
+-- out from them where they are used. Assumes nothing.
 use Prim.Native.Nat.{ℕ}
 
 -- the fewest and the most screens of a house

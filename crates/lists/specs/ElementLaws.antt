@@ -10,7 +10,8 @@ use mathlib.Core.Option.{some, none}
 use lib.Dec.{eqb, T, eqb-refl, eqb→eq}
 use lib.ListN.{set, replicate, length, getD}
 use lib.Seq.{getD-set-same, getD-set-other}
-use Rattle.lists.specs.TestLaws.{either, tell, clash, bit, bit-le, both, and-r, and-l, here, _∈_, there, is-true, is-false, keep-length, mem-keep, none-in, keep-mem, firstOf-some, every-at}
+use Rattle.lists.specs.TestLaws.{either, tell, clash, bit, bit-le, both, and-r, and-l, here, _∈_, there, is-true}
+use Rattle.lists.specs.TestLaws.{is-false, keep-length, mem-keep, none-in, keep-mem, firstOf-some, every-at}
 use Rattle.lists.specs.Order.{insert, keyBefore}
 use Rattle.lists.specs.Sorted.{before-total}
 use Rattle.lists.specs.Tests.{every, allBelow, numbers, keep, firstOf}

@@ -10,7 +10,9 @@ use lib.Dec.{T, ltb, eqb, ltb→lt, lt→ltb, eqb→eq, eqb-refl, nltb→le}
 use lib.ListN.{length}
 use Rattle.lists.specs.Tests.{every, keep}
 use Rattle.lists.specs.Order.{sameKey, keyBefore, rising, insert, insertAll}
-use Rattle.lists.specs.TestLaws.{_∈_, either, clash, and-l, and-r, both, or-cases, or-l, or-r, not-from, is-true, is-false, here, there, none-in, every-at, every-from, keep-mem, keep-length, bit-le}
+use Rattle.lists.specs.TestLaws.{_∈_, either, clash, and-l, and-r, both, or-cases, or-l, or-r, not-from, is-true}
+use Rattle.lists.specs.TestLaws.{is-false, here, there, none-in, every-at, every-from, keep-mem, keep-length}
+use Rattle.lists.specs.TestLaws.{bit-le}
 
 -- keys
 pub sameKey→≡ : (a b : List ℕ) → T (sameKey a b) → a ≡ b

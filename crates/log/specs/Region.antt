@@ -1,5 +1,4 @@
--- The log as words: a row for each record (origin, number, the label's parts, body), unused rows zero.
--- Assumes nothing.
+-- The log as words: a row for each record (origin, number, the label's parts, body), unused rows zero. Assumes nothing.
 use Prim.Native.Nat.{ℕ, _+_, _-_, _*_}
 use mathlib.Core.List.{List, [], _∷_, _++_, map}
 use lib.ListN.{length, getD, take, drop, replicate}

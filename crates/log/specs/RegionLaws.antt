@@ -5,7 +5,8 @@ use mathlib.Core.Path.{_≡_, refl, sym, ap, ap₂, _∙_}
 use mathlib.Core.Bool.{Bool}
 use mathlib.Core.List.{List, [], _∷_, _++_, map, append-assoc}
 use lib.Dec.{T, eqb, eqb→eq}
-use lib.ListN.{length, take, drop, getD, replicate, length-append, length-replicate, length-map, take-append-drop, drop-of-length-le}
+use lib.ListN.{length, take, drop, getD, replicate, length-append, length-replicate, length-map, take-append-drop}
+use lib.ListN.{drop-of-length-le}
 use lib.Seq.{take-at, getD-at, drop-drop}
 use Rattle.limits.specs.Limits.{parts}
 use Rattle.lists.specs.Scan.{rest}

@@ -1,10 +1,10 @@
 // The log on a lent slice: rows of eleven words, by origin, then number. Knows nothing of what a body means.
-use ledger::FIRST_NUMBER;
+use ledger::label_fits;
 use limits::PARTS;
 use stamp::Parts;
 use stamp::at_most;
-use stamp::fits;
 use stamp::list_of;
+use stamp::part_at;
 use stamp::parts_at;
 use stamp::put_parts;
 ghost use mathlib.Core.Path.{_≡_};
@@ -37,17 +37,6 @@ pub const BODY: usize = LABEL + PARTS;
 
 // A row's words.
 pub const ROW: usize = BODY + 1;
-
-// A part that a stamp does not have is zero.
-pub fn part_at(s: &[u64], k: u64) -> u64
-    ensures { λ r. ⌜ r ≡ part (now (s .entry)) k ⌝ }
-{
-    let i = k as usize;
-    if s.len() <= i {
-        return 0;
-    }
-    s[i]
-}
 
 pub fn is_known(row: &[u64], s: &[u64]) -> bool
     requires { ⌜ length (now row) ≡ rowLong ⌝ }
@@ -91,21 +80,11 @@ pub fn goes(row: &[u64], ready: &[u64], low: &[u64]) -> bool
     is_known(row, low)
 }
 
-// The field rules of a record in a house of n screens, but that of its body.
 fn row_fits(row: &[u64], n: usize) -> bool
     requires { ⌜ length (now row) ≡ rowLong ⌝ }
     ensures { λ r. ⌜ r ≡ recordFits (λ _. true) n (recordAt (now (row .entry))) ⌝ }
 {
-    if n as u64 <= row[ORIGIN] {
-        return false;
-    }
-    if row[NUMBER] < FIRST_NUMBER {
-        return false;
-    }
-    if row[NUMBER] <= part_at(&row[LABEL..BODY], row[ORIGIN]) {
-        return false;
-    }
-    fits(&row[LABEL..BODY], n)
+    label_fits(row[ORIGIN], row[NUMBER], &row[LABEL..BODY], n)
 }
 
 // What soundness asks of a record alone. Once it fits, the value stamp covers its stamp exactly when the record is

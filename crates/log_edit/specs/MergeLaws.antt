@@ -16,7 +16,8 @@ use Rattle.lists.specs.Neighbours.{rising-front}
 use Rattle.ledger.specs.Record.{Record, place}
 use Rattle.ledger.specs.Log.{gathered}
 use Rattle.log_edit.specs.Merge.{afterOf, beforeOf, Fresh}
-use Rattle.log_edit.specs.OrderLaws.{parts-of, rising-across, insert-parts, insertAll-last, insertAll-front, length-put}
+use Rattle.log_edit.specs.OrderLaws.{parts-of, rising-across, insert-parts, insertAll-last, insertAll-front}
+use Rattle.log_edit.specs.OrderLaws.{length-put}
 
 -- a log whose front does not stand after x and whose back does
 pub parted :

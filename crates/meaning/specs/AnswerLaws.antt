@@ -9,7 +9,8 @@ use mathlib.Core.List.{_∷_, [], List}
 use mathlib.Core.Option.{Option, none, some}
 use lib.Dec.{T, ltb, ltb→lt, lt→ltb, eqb, eqb→eq}
 use lib.ListN.{getD, drop}
-use Rattle.lists.specs.TestLaws.{not-not, and-l, and-r, passed, firstOf-none, all-from, not-intro, _also_, both, not-from}
+use Rattle.lists.specs.TestLaws.{not-not, and-l, and-r, passed, firstOf-none, all-from, not-intro, _also_, both}
+use Rattle.lists.specs.TestLaws.{not-from}
 use Rattle.lists.specs.TestLaws.{done, either, tell, is-true, is-false, clash, same-test}
 use Rattle.lists.specs.ElementLaws.{first-passes, none-first, eq→eqb}
 use Rattle.lists.specs.Tests.{firstOf, every}
@@ -19,7 +20,8 @@ use Rattle.stamp.specs.Stamp.{Stamp, stampFits, atMost, part}
 use Rattle.tally.specs.Standing.{verdictOf, accepted}
 use Rattle.tally.specs.declared.Standing.{Standing}
 use Rattle.meaning.specs.Book.{Book, standingAt, sound, known}
-use Rattle.meaning.specs.Reply.{Reply, isAnswered, permits, refusal, verdict, showingOf, taken, already, wait, gossiped, figures}
+use Rattle.meaning.specs.Reply.{Reply, isAnswered, permits, refusal, verdict, showingOf, taken, already, wait}
+use Rattle.meaning.specs.Reply.{gossiped, figures}
 use Rattle.meaning.specs.BookLaws.{Sound, sound-at, at-sound}
 use Rattle.meaning.specs.Step.{ask, askStops, stopOr, answerOf, Outcome, unknownLabel}
 

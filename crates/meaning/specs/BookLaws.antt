@@ -15,7 +15,8 @@ use Rattle.lists.specs.Order.{rising}
 use Rattle.lists.specs.Tests.{every}
 use Rattle.limits.specs.LimitLaws.{rooms-small}
 use Rattle.limits.specs.Limits.{promptCount, showings, logRoom, bookRoom, countLimit}
-use Rattle.stamp.specs.Laws.{Fits, fits, Covers, atMost-parts, parts-atMost, zeros-part, total-mono, fits-test, fits-zeros}
+use Rattle.stamp.specs.Laws.{Fits, fits, Covers, atMost-parts, parts-atMost, zeros-part, total-mono, fits-test}
+use Rattle.stamp.specs.Laws.{fits-zeros}
 use Rattle.stamp.specs.Stamp.{stampFits, total, part, atMost, zeros}
 use Rattle.tally.specs.Body.{bodyFits, tapsIn}
 use Rattle.tally.specs.Standing.{afresh, among, sameCounts, standing, blank}

@@ -1,6 +1,5 @@
 -- Taps on the practice car: document 01's starred cases A to L as one table, the order of refusals as another, and as a
--- third what
--- answers and refusals go by; one claim. Assumes nothing.
+-- third what answers and refusals go by; one claim. Assumes nothing.
 use Prim.Native.Nat.{ℕ, suc}
 use mathlib.Core.Path.{_≡_, refl}
 use mathlib.Core.Bool.{Bool, false, true}
@@ -8,7 +7,8 @@ use mathlib.Core.List.{List, [], _∷_, flatMap}
 use mathlib.Core.Option.{none, some}
 use Rattle.lists.specs.Table.{agrees}
 use Rattle.lists.specs.Tests.{firstOf}
-use Rattle.limits.specs.Limits.{word, frontEnds, serials, promptCount, showings, accept, decline, bookRoom, fewest, most, logRoom}
+use Rattle.limits.specs.Limits.{word, frontEnds, serials, promptCount, showings, accept, decline, bookRoom, fewest}
+use Rattle.limits.specs.Limits.{most, logRoom}
 use Rattle.stamp.specs.Stamp.{Stamp, zeros, stampFits}
 use Rattle.tally.specs.Body.{says as saidTap, bodyWord, bodyOf, bodyFits, tapsIn}
 use Rattle.tally.specs.Standing.{among, ofPrompt, howMany, standing, standingOf, afresh, unasked, accepted, declined}
@@ -18,7 +18,8 @@ use Rattle.tally.specs.declared.Tap.{Tap}
 use Rattle.ledger.specs.Cases.{at, placesOf}
 use Rattle.ledger.specs.Log.{unknowns, gathered, readyStamp, newlyApplied, remaining, waitingIn, allHeld, gapless}
 use Rattle.ledger.specs.Message.{Message, inRange, messageFits}
-use Rattle.ledger.specs.Record.{Record, stampOf, knows, isKnown, isApplied, isWaiting, everywhere, mayGo, has, recordFits}
+use Rattle.ledger.specs.Record.{Record, stampOf, knows, isKnown, isApplied, isWaiting, everywhere, mayGo, has}
+use Rattle.ledger.specs.Record.{recordFits}
 use Rattle.meaning.specs.Book.{fresh, waiting, known, ready, row, standingAt, holds, countedIn, clauses, sound}
 use Rattle.meaning.specs.Reply.{figures, Reply}
 use Rattle.meaning.specs.Step.{send, Outcome, tapStep, gossipStep, ask, openStops, sendStops, nowReady}

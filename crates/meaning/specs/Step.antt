@@ -25,8 +25,7 @@ pub record Outcome : Type 0 where
   pub book : Book
 
 -- A stop is a test with its reply. The reply given is that of the first stop, in order, whose test holds, and the book
--- stays;
--- with none the step is done.
+-- stays; with none the step is done.
 abbrev pub stopOr : Book → Outcome → Option Reply → Outcome
 stopOr b out none = out
 stopOr b out (some r) = record { reply = r; book = b }
@@ -125,8 +124,11 @@ askStops b p l =
 unfoldable pub answerOf : Standing → Stamp → Reply
 answerOf s v = verdict (verdictOf s) (s .showing) (s .accepts) (s .declines) v
 
+abbrev pub answered : Book → ℕ → Outcome
+answered b p = record { reply = answerOf (standingAt b p) (b .value); book = b }
+
 unfoldable pub ask : Book → ℕ → Stamp → Outcome
-ask b p l = stopOr b (record { reply = answerOf (standingAt b p) (b .value); book = b }) (firstOf (askStops b p l))
+ask b p l = stopOr b (answered b p) (firstOf (askStops b p l))
 
 -- Send: the known stamp and the whole log as one gossip message; the book doesn't change
 unfoldable pub send : Book → Message
@@ -142,8 +144,7 @@ sendStops isSound need room =
     ∷ []
 
 -- Gossip from j with stamp m: keep the records not yet known, merge m into the known stamp, set row j to m, apply what
--- is
--- ready, drop what may go
+-- is ready, drop what may go
 unfoldable pub newOnes : Book → Message → List Record
 newOnes b m = unknowns (known b) (m .records)
 

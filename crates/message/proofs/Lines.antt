@@ -16,7 +16,8 @@ use Rattle.wire.specs.Laws.{length-readable, lawful-head}
 use Rattle.wire.specs.Read.{readable, readAs}
 use Rattle.wire.specs.ReadLaws.{told}
 use Rattle.wire.specs.declared.Said.the-variants as said
-use Rattle.message.specs.Message.{headLine, countIn, partsOf, inOrder, wellFormed, readGossip}
+use Rattle.wire.specs.Head.{headLine, countIn}
+use Rattle.message.specs.Message.{partsOf, inOrder, wellFormed, readGossip}
 use Rattle.message.specs.Parts.{head-rules}
 use Rattle.message.specs.Told.{head-in, head-count}
 

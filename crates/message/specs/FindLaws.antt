@@ -30,7 +30,8 @@ use Rattle.numbers.specs.Number.{numberFrom}
 use Rattle.ledger.specs.Record.{place}
 use Rattle.wire.specs.Kinds.{recordKind, headLong, recordLong}
 use Rattle.wire.specs.Read.{lineOf, readable}
-use Rattle.message.specs.Message.{countIn, partsOf, recordParts, recordsKind, screensIn, stampIn, recordFrom, recordsIn, inOrder, wellFormed}
+use Rattle.wire.specs.Head.{countIn, screensIn, stampIn}
+use Rattle.message.specs.Message.{partsOf, recordParts, recordsKind, recordFrom, recordsIn, inOrder, wellFormed}
 use Rattle.message.specs.Find.{originOf, ofOrigin, recordsOf, below, placeOf, startOf, Finds}
 use Rattle.message.specs.Runs.{count-next, one-run}
 use Rattle.message.specs.Told.{well-long, well-order}

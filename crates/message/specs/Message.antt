@@ -4,34 +4,21 @@ use Prim.Native.Nat.{ℕ, _+_, _*_}
 use mathlib.Core.Bool.{Bool, _&&_, cond}
 use mathlib.Core.List.{List, _∷_, _++_, map}
 use lib.Dec.{eqb}
-use lib.ListN.{length, getD, take, drop}
+use lib.ListN.{length, take, drop}
 use Rattle.lists.specs.Order.{rising}
 use Rattle.lists.specs.Rows.{rows, flat}
 use Rattle.lists.specs.Tests.{every}
 use Rattle.limits.specs.Limits.{parts}
-use Rattle.stamp.specs.Stamp.{Stamp}
 use Rattle.tally.specs.Tap.{fields, tapOf}
 use Rattle.tally.specs.declared.Tap.{Tap}
 use Rattle.ledger.specs.Message.{Message}
 use Rattle.ledger.specs.Record.{Record, place}
-use Rattle.wire.specs.Kinds.{Kind, headKind, recordKind, recordIn, stampAt, tapAt, headLong, recordLong}
+use Rattle.wire.specs.Head.{headLine, senderIn, screensIn, countIn, stampIn}
+use Rattle.wire.specs.Kinds.{Kind, headKind, recordKind, recordIn, tapAt, headLong, recordLong}
 use Rattle.wire.specs.Read.{lineOf, readable}
 use Rattle.wire.specs.Write.{written}
 use Rattle.wire.specs.declared.Said.{Said}
 use Rattle.wire.specs.declared.Said.the-variants as said
-
--- the head's line, and what it says
-unfoldable pub headLine : List ℕ → List ℕ
-headLine bytes = lineOf headKind (take headLong bytes)
-
-abbrev pub screensIn : List ℕ → ℕ
-screensIn bytes = getD (headLine bytes) 2 0
-
-abbrev pub countIn : List ℕ → ℕ
-countIn bytes = getD (headLine bytes) 3 0
-
-abbrev pub stampIn : List ℕ → Stamp
-stampIn bytes = stampAt 4 (headLine bytes)
 
 -- each record is a part of the message from its own first byte; there are count of them
 unfoldable pub partsOf : ℕ → List ℕ → List (List ℕ)
@@ -57,7 +44,7 @@ recordsIn bytes = map (recordFrom (recordsKind bytes)) (recordParts bytes)
 -- the message that the bytes hold
 unfoldable pub messageOf : List ℕ → Message
 messageOf bytes = record
-    { sender = getD (headLine bytes) 1 0; screens = screensIn bytes; stamp = stampIn bytes; records = recordsIn bytes }
+    { sender = senderIn bytes; screens = screensIn bytes; stamp = stampIn bytes; records = recordsIn bytes }
 
 -- each part is a record that keeps its rules, and they rise
 unfoldable pub inOrder : Kind → List (List ℕ) → Bool

@@ -16,7 +16,8 @@ use mathlib.Core.List.{List, [], _∷_, _++_, map, append-nil}
 use lib.Dec.{T, leb, eqb}
 use lib.ListN.{length, getD, take, drop, length-append, length-map, List·getD-map}
 use lib.Seq.{take-at, drop-at}
-use Rattle.lists.specs.TestLaws.{_∈_, and-l, and-r, both, given, done, _also_, all-from, every-at, every-getD, same-test}
+use Rattle.lists.specs.TestLaws.{_∈_, and-l, and-r, both, given, done, _also_, all-from, every-at, every-getD}
+use Rattle.lists.specs.TestLaws.{same-test}
 use Rattle.lists.specs.ElementLaws.{eq→eqb}
 use Rattle.lists.specs.Order.{rising, sameKey}
 use Rattle.lists.specs.Rows.{rows, flat}
@@ -36,8 +37,11 @@ use Rattle.wire.specs.Read.{lineOf, readable}
 use Rattle.wire.specs.Write.{writable, written}
 use Rattle.message.specs.Find.{partAt}
 use Rattle.message.specs.FindLaws.{whole-bytes}
-use Rattle.message.specs.LineLaws.{said-line, record-line, line-record, record-writable, stamp-fits, house, head-stamp, head-writable}
-use Rattle.message.specs.Message.{headLine, screensIn, countIn, stampIn, partsOf, recordParts, recordsKind, recordFrom, recordsIn, messageOf, inOrder, wellFormed, headOf, lineFor, messageBytes}
+use Rattle.message.specs.LineLaws.{said-line, record-line, line-record, record-writable, stamp-fits, house}
+use Rattle.message.specs.LineLaws.{head-stamp, head-writable}
+use Rattle.wire.specs.Head.{headLine, senderIn, screensIn, countIn, stampIn}
+use Rattle.message.specs.Message.{partsOf, recordParts, recordsKind, recordFrom, recordsIn, messageOf, inOrder}
+use Rattle.message.specs.Message.{wellFormed, headOf, lineFor, messageBytes}
 use Rattle.message.specs.Parts.{length-parts, part-at, head-rules, part-rules}
 use Rattle.message.specs.Told.{well-head, well-order}
 
@@ -253,7 +257,7 @@ module _ (bytes : List ℕ) (b : Bytes bytes) (w : T (wellFormed bytes)) where
   head-same : headOf (messageOf bytes) ≡ headLine bytes
   unfolding headOf messageOf headLine headKind
   head-same =
-      ap (λ (n : ℕ). 1 ∷ getD (headLine bytes) 1 0 ∷ screensIn bytes ∷ n ∷ stampIn bytes) (length-records bytes)
+      ap (λ (n : ℕ). 1 ∷ senderIn bytes ∷ screensIn bytes ∷ n ∷ stampIn bytes) (length-records bytes)
       ∙ said-line headKind lawful-head (take headLong bytes) (well-head bytes w)
 
   pieces-same : map (partFor (recordsKind bytes)) (recordsIn bytes) ≡ recordParts bytes

@@ -21,7 +21,8 @@ use Rattle.wire.specs.ReadLaws.{answered, unanswered, told-line}
 use Rattle.wire.specs.Said.{figures}
 use Rattle.wire.specs.declared.Said.{Said}
 use Rattle.wire.specs.declared.Said.the-variants as said
-use Rattle.message.specs.Message.{headLine, countIn, recordParts, recordsKind, inOrder, wellFormed, readGossip}
+use Rattle.wire.specs.Head.{headLine, countIn}
+use Rattle.message.specs.Message.{recordParts, recordsKind, inOrder, wellFormed, readGossip}
 
 module _ (bytes : List ℕ) (w : T (wellFormed bytes)) where
   pub well-head : T (readable headKind (take headLong bytes))

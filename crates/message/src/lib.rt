@@ -42,8 +42,7 @@ fn comes_before(k: u64, q: u64, o: u64, r: u64) -> bool
 }
 
 // Whether the records keep their rules and rise: each is compared with the one before it. Numbers start at 1, so every
-// record
-// comes after number 0 of origin 0.
+// record comes after number 0 of origin 0.
 fn in_order(msg: &[u8], count: usize, n: usize, m: Parts) -> bool
     requires { ⌜ headLong + count * recordLong ≤ length (now msg) ⌝ }
     ensures { λ r. ⌜ r ≡ inOrder (recordKind n (listOf m)) (partsOf count (now (msg .entry))) ⌝ }
@@ -145,8 +144,7 @@ fn place(msg: &[u8], count: usize, o: u64) -> usize
 }
 
 // The records of one origin, as the very part of the message that holds them; with none, or of bytes that are refused,
-// the
-// empty part at the end.
+// the empty part at the end.
 pub fn records_of(msg: &[u8], origin: u8) -> &[u8]
     ensures { λ r. ⌜ Finds origin (msg .entry) r ⌝ }
 {

@@ -1,6 +1,5 @@
 -- Laws of a row of fields, once over the list of widths: reading gives back what was written, and writing what was
--- read.
--- Assumes nothing.
+-- read. Assumes nothing.
 use Prim.Native.Nat.{ℕ, suc, _+_, _<_, _^_}
 use native.Mathlib.Omega.{arith}
 use mathlib.Core.Path.{_≡_, refl, ap, ap₂, subst, _∙_}
@@ -11,7 +10,8 @@ use lib.Seq.{take-at, drop-at, length-take-le, take-append-le, drop-append-le}
 use Rattle.lists.specs.TestLaws.{and-l, and-r, both}
 use Rattle.stamp.specs.Stamp.{total}
 use Rattle.numbers.specs.Number.{numberOf, bytesOf, Bytes}
-use Rattle.numbers.specs.NumberLaws.{length-bytes, number-bytes, bytes-number, number-small, bytes-take, bytes-drop, bytes-append, bytes-are}
+use Rattle.numbers.specs.NumberLaws.{length-bytes, number-bytes, bytes-number, number-small, bytes-take}
+use Rattle.numbers.specs.NumberLaws.{bytes-drop, bytes-append, bytes-are}
 use Rattle.numbers.specs.Fields.{readFields, writeFields, fieldsFit}
 
 pub length-read : (ws bytes : List ℕ) → length (readFields ws bytes) ≡ length ws

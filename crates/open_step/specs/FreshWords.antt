@@ -14,7 +14,8 @@ use Rattle.taps.specs.Region.{tapWords}
 use Rattle.prompts.specs.RegionLaws.{words-fresh}
 use Rattle.meaning.specs.Book.{fresh}
 use Rattle.lent.specs.Lay.{putIn, Laid, laid-put, store-lay}
-use Rattle.lent.specs.Words.{Name, Screen, Screens, Logged, Taps, Table, Value, Log, Counted, Prompts, Words, order, size, from, bookLong, lay, wordsAt, tableWords, wordsOf}
+use Rattle.lent.specs.Words.{Name, Screen, Screens, Logged, Taps, Table, Value, Log, Counted, Prompts, Words, order}
+use Rattle.lent.specs.Words.{size, from, bookLong, lay, wordsAt, tableWords, wordsOf}
 
 -- so many zeros
 abbrev pub blank : ℕ → List ℕ

@@ -26,7 +26,8 @@ use Rattle.answer.specs.SpeechLaws.{says-put, reply-long, open-says}
 use Rattle.answer.specs.Answer.{doneOn, answerOn, Answers, openFrom}
 use Rattle.answer.specs.AnswerLaws.{front, within, room-most, unsound-says}
 use Rattle.program.specs.Said.{bad}
-use Rattle.program.specs.Turn.{Turned, lastTurn, quietTurn, moreTurn, openTurn, messageTurn, turnBy, turnOn, Turns}
+use Rattle.program.specs.Turn.{Turned, lastTurn, quietTurn, moreTurn, openTurn, messageTurn, turnBy, turnOn}
+use Rattle.program.specs.Turn.{Turns}
 use Rattle.program.specs.declared.Turn.{Turn}
 use Rattle.program.specs.declared.Turn.the-variants.{Read, Say, Last, Stop}
 

@@ -75,8 +75,8 @@ pub program-says : (words input all : List ℕ) → Says (atFirst words input) a
 program-says words input all r = all-said (λ t. absurd t) r
 
 -- At a desk that a run comes to, what is read is nothing, or a part that asked for more and then at most as much as it
--- asked for. So a
--- message uses up all that is read, and the loop that drives the program starts each message with nothing read.
+-- asked for. So a message uses up all that is read, and the loop that drives the program starts each message with
+-- nothing read.
 record Asked (read : List ℕ) (opened : Bool) : Type 0 where
   first : List ℕ
   more : List ℕ

@@ -9,8 +9,7 @@ use Rattle.program.specs.Turn.{Turned, turnOn}
 use Rattle.program.specs.declared.Turn.the-variants.{Read, Say, Last, Stop}
 
 -- what the loop that drives it holds: the book's words, what is read and not yet used, what is still to come, whether
--- the end is met,
--- whether the book is open, and all that is said so far
+-- the end is met, whether the book is open, and all that is said so far
 pub record Desk : Type 0 where
   pub words : List ℕ
   pub read : List ℕ
@@ -60,8 +59,7 @@ afterSay d used =
     }
 
 -- A read is answered with at least one of the bytes that come next and at most as many as it asks for, or, where none
--- come, with the
--- end. What a message says is said, and reading goes on.
+-- come, with the end. What a message says is said, and reading goes on.
 pub data Goes : Desk → Desk → Type 0 where
   reads : {d : Desk} (n k : ℕ) → turnAt d .turn ≡ Read n → 1 ≤ k → k ≤ n - length (d .read) → k ≤ length (d .rest)
       → Goes d (afterRead d k)

@@ -1,6 +1,5 @@
 -- What the small program does next, of the book, what is read and not yet used, whether the input has ended and whether
--- the book is
--- open. Assumes nothing.
+-- the book is open. Assumes nothing.
 use Prim.Native.Nat.{ℕ}
 use mathlib.Core.Path.{_≡_}
 use mathlib.Core.Bool.{Bool, cond, _&&_}
@@ -37,8 +36,7 @@ abbrev pub sayTurn : ℕ → List ℕ → List ℕ → Turned
 sayTurn used words says = record { turn = Say used (length says); words = words; says = says }
 
 -- more bytes are needed: they are read; but an end between messages stops it without a word, and any other end is an
--- end inside a
--- message or before kind 11
+-- end inside a message or before kind 11
 abbrev pub moreTurn : List ℕ → List ℕ → Bool → Bool → ℕ → Turned
 moreTurn words read ended opened n =
     cond ended (cond (opened && eqb (length read) 0) (quietTurn Stop words) (lastTurn words bad))

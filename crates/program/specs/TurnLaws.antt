@@ -46,8 +46,8 @@ module _ (words read rest : List ℕ) (ended opened : Bool) (over : T ended → 
   all = read ++ rest
 
   -- More is asked for only before the end, and never more than the longest message has. A message's part of what is
-  -- said comes first,
-  -- and what is left has the rest. The last turn says all that is still to be said; without a word it is nothing.
+  -- said comes first, and what is left has the rest. The last turn says all that is still to be said; without a word it
+  -- is nothing.
   abbrev pub Means : Turn → Turned → Type 0
   Means (Read n) o = (ended ≡ false) × (length read < n) × (n ≤ longest)
   Means (Say n k) o =
@@ -161,8 +161,7 @@ module _ (words read rest : List ℕ) (ended opened : Bool) (over : T ended → 
       go frame.Stop e = stop-means e
 
 -- what a turn asks for and says is within what the loop that drives it has: more is read only up to the longest
--- message, and what is
--- said stands in the output
+-- message, and what is said stands in the output
 module _ (words read : List ℕ) (ended opened : Bool) (t : Turn) (after out bytes : List ℕ)
     (p : Turns (turnOn words read ended opened) t after out bytes) where
   -- what the turn that was given tells of an input that ends here

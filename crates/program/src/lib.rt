@@ -22,8 +22,7 @@ ghost use Rattle.program.specs.Turn.{moreTurn, messageTurn, turnOn, Turn
 ghost use Rattle.program.specs.declared.Turn.the-variants.{Last};
 
 // Read until so many bytes are there in all, or the input ends; so many bytes of what is read are used up, and so many
-// at the output's
-// front are said; so many are said, and the program stops; it stops without a word.
+// at the output's front are said; so many are said, and the program stops; it stops without a word.
 pub enum Turn {
     Read(usize),
     Say { used: usize, said: usize },

@@ -10,20 +10,21 @@ use lib.Dec.{T, eqb, ltb}
 use lib.ListN.{length, drop}
 use Rattle.lists.specs.TestLaws.{clash}
 use Rattle.lists.specs.Tests.{firstOf}
-use Rattle.tally.specs.Body.{says}
-use Rattle.wire.specs.Kinds.{tapKind, questionKind, tapAt, stampAt}
-use Rattle.wire.specs.Read.{lineOf, readable}
+use Rattle.wire.specs.Kinds.{questionKind}
+use Rattle.wire.specs.Read.{readable}
 use Rattle.wire.specs.Write.{Output, refuse}
 use Rattle.wire.specs.declared.Written.the-variants.{Wrote, Refused}
-use Rattle.message.specs.Message.{messageBytes, wellFormed, messageOf}
+use Rattle.message.specs.Message.{messageBytes}
 use Rattle.meaning.specs.AnswerLaws.{ask-keeps}
 use Rattle.meaning.specs.Book.{fresh}
 use Rattle.meaning.specs.Reply.{Reply, refusal, isTaken, isGossiped}
-use Rattle.meaning.specs.Step.{Outcome, stopOr, takeOut, hearOut, openStops, tapStops, tapStep, ask, send, gossipStops}
-use Rattle.meaning.specs.Step.{gossipStep}
+use Rattle.meaning.specs.Step.{Outcome, stopOr, openStops, ask, send}
 use Rattle.lent.specs.SoundWords.{lawful-held}
 use Rattle.lent.specs.Words.{bookLong, bookOf, wordsOf, lawful}
-use Rattle.promise.specs.Lent.{Lent, heard, stopOn, tapStop, tapOn, promptIn, labelIn, questionOn, gossipStop, gossipOn, sendOn, openOr, openOn}
+use Rattle.meaning.specs.Request.{Request, stops, done, step-by}
+use Rattle.promise.specs.Lent.{Entry, ofTap, ofGossip, reads, requestIn, onBook, entryOn, entryStop}
+use Rattle.promise.specs.Lent.{Lent, heard, stopOn, tapStop, tapOn, promptIn, labelIn, questionOn, gossipStop}
+use Rattle.promise.specs.Lent.{gossipOn, sendOn, openOr, openOn}
 use Rattle.promise.specs.LentLaws.{lentOf}
 
 -- the words of a lawful slice are those of the book that it holds
@@ -63,29 +64,41 @@ not-done :
 not-done ws o done (some r) s c n = ap (λ (x : Lent). x .words) (s r refl)
 not-done ws o done none s c n = clash done (c refl) n
 
+-- an entry
+module _ (e : Entry) (ws bytes : List ℕ) where
+  abbrev asks : Request
+  asks = requestIn e (bookOf ws) bytes
+
+  by-stops :
+      entryOn e ws bytes
+      ≡ comes ws (done (bookOf ws) asks) (lawful ws) (reads e (bookOf ws) bytes) (firstOf (stops (bookOf ws) asks))
+  by-stops =
+      ap (λ (o : Outcome). onBook ws (heard (reads e (bookOf ws) bytes) (bookOf ws) o)) (step-by (bookOf ws) asks)
+
+  -- what stops it is the answer, and no word changes
+  entry-stopped : (r : Reply) → entryStop e ws bytes ≡ some r → entryOn e ws bytes ≡ record { reply = r; words = ws }
+  entry-stopped r s =
+      by-stops
+      ∙ stopped ws (done (bookOf ws) asks) (lawful ws) refl (reads e (bookOf ws) bytes)
+      (firstOf (stops (bookOf ws) asks)) r s
+
+  -- where nothing stops it, it is done
+  entry-clear : entryStop e ws bytes ≡ none → entryOn e ws bytes ≡ lentOf (done (bookOf ws) asks)
+  entry-clear s =
+      by-stops
+      ∙ clear ws (done (bookOf ws) asks) (lawful ws) (reads e (bookOf ws) bytes) (firstOf (stops (bookOf ws) asks)) s
+
 -- Tap
 module _ (ws bytes : List ℕ) where
-  abbrev line : List ℕ
-  line = lineOf (tapKind (bookOf ws .screens)) bytes
-
-  abbrev taken : Outcome
-  taken = takeOut (bookOf ws) (says (tapAt 1 line)) (stampAt 6 line)
-
-  abbrev isTap : Bool
-  isTap = readable (tapKind (bookOf ws .screens)) bytes
-
-  abbrev tapBy : Option Reply
-  tapBy = firstOf (tapStops (bookOf ws) (tapAt 1 line) (stampAt 6 line))
-
   -- what stops a tap, Already too, is the answer, and no word changes
   pub tap-stopped : (r : Reply) → tapStop ws bytes ≡ some r → tapOn ws bytes ≡ record { reply = r; words = ws }
-  unfolding tapStop tapOn tapStep
-  tap-stopped r s = stopped ws taken (lawful ws) refl isTap tapBy r s
+  unfolding tapStop tapOn
+  tap-stopped = entry-stopped ofTap ws bytes
 
   -- a tap that nothing stops is taken
   pub tap-clear : tapStop ws bytes ≡ none → T (isTaken (tapOn ws bytes .reply))
-  unfolding tapStop tapOn tapStep
-  tap-clear s = subst (λ (o : Lent). T (isTaken (o .reply))) (sym (clear ws taken (lawful ws) isTap tapBy s)) tt
+  unfolding tapStop tapOn
+  tap-clear s = subst (λ (o : Lent). T (isTaken (o .reply))) (sym (entry-clear ofTap ws bytes s)) tt
 
   -- a tap that is not taken, refused or there already, changes no word
   pub tap-keeps : T (not (isTaken (tapOn ws bytes .reply))) → tapOn ws bytes .words ≡ ws
@@ -94,22 +107,15 @@ module _ (ws bytes : List ℕ) where
 
 -- Gossip
 module _ (ws bytes : List ℕ) where
-  abbrev told : Outcome
-  told = hearOut (bookOf ws) (messageOf bytes)
-
-  abbrev gossipBy : Option Reply
-  gossipBy = firstOf (gossipStops (bookOf ws) (messageOf bytes))
-
   -- what stops gossip is the answer, and no word changes
   pub gossip-stopped : (r : Reply) → gossipStop ws bytes ≡ some r → gossipOn ws bytes ≡ record { reply = r; words = ws }
-  unfolding gossipStop gossipOn gossipStep
-  gossip-stopped r s = stopped ws told (lawful ws) refl (wellFormed bytes) gossipBy r s
+  unfolding gossipStop gossipOn
+  gossip-stopped = entry-stopped ofGossip ws bytes
 
   -- gossip that nothing stops is taken
   pub gossip-clear : gossipStop ws bytes ≡ none → T (isGossiped (gossipOn ws bytes .reply))
-  unfolding gossipStop gossipOn gossipStep
-  gossip-clear s = subst (λ (o : Lent). T (isGossiped (o .reply)))
-      (sym (clear ws told (lawful ws) (wellFormed bytes) gossipBy s)) tt
+  unfolding gossipStop gossipOn
+  gossip-clear s = subst (λ (o : Lent). T (isGossiped (o .reply))) (sym (entry-clear ofGossip ws bytes s)) tt
 
   -- gossip that is refused changes no word
   pub gossip-keeps : T (not (isGossiped (gossipOn ws bytes .reply))) → gossipOn ws bytes .words ≡ ws

@@ -45,26 +45,49 @@ heard readable b o = cond readable o (record { reply = refusal 1; book = b })
 abbrev pub stopOn : Bool → Bool → Option Reply → Option Reply
 stopOn lawful readable stop = cond lawful (cond readable stop (some (refusal 1))) (some (refusal 11))
 
--- the request that a tap's, a question's and a gossip's bytes make of a book
-abbrev pub tapIn : Book → List ℕ → Request
-tapIn b bytes = let line = lineOf (tapKind (b .screens)) bytes in tapped (tapAt 1 line) (stampAt 6 line)
+-- the entries that take a message's bytes
+pub data Entry : Type 0 where
+  ofGossip ofTap ofQuestion : Entry
 
-abbrev pub questionIn : Book → List ℕ → Request
-questionIn b bytes = let line = lineOf (questionKind (b .screens)) bytes in asked (getD line 1 0) (stampAt 2 line)
+-- whether the bytes are a message of the entry's kind, and keep its field rules
+abbrev pub reads : Entry → Book → List ℕ → Bool
+reads ofGossip b bytes = wellFormed bytes
+reads ofTap b bytes = readable (tapKind (b .screens)) bytes
+reads ofQuestion b bytes = readable (questionKind (b .screens)) bytes
 
-abbrev pub gossipIn : List ℕ → Request
-gossipIn bytes = told (messageOf bytes)
+-- the request that they make of a book
+abbrev pub requestIn : Entry → Book → List ℕ → Request
+requestIn ofGossip b bytes = told (messageOf bytes)
+requestIn ofTap b bytes = let line = lineOf (tapKind (b .screens)) bytes in tapped (tapAt 1 line) (stampAt 6 line)
+requestIn ofQuestion b bytes =
+    let line = lineOf (questionKind (b .screens)) bytes in asked (getD line 1 0) (stampAt 2 line)
 
-abbrev pub hearTap : Book → List ℕ → Outcome
-hearTap b bytes = heard (readable (tapKind (b .screens)) bytes) b (step b (tapIn b bytes))
+-- what an entry answers and leaves, and what stops it
+abbrev pub hear : Entry → Book → List ℕ → Outcome
+hear e b bytes = heard (reads e b bytes) b (step b (requestIn e b bytes))
+
+abbrev pub entryOn : Entry → List ℕ → List ℕ → Lent
+entryOn e ws bytes = onBook ws (hear e (bookOf ws) bytes)
+
+abbrev pub entryStop : Entry → List ℕ → List ℕ → Option Reply
+entryStop e ws bytes =
+    let b = bookOf ws in
+    stopOn (lawful ws) (reads e b bytes) (firstOf (stops b (requestIn e b bytes)))
+
+unfoldable pub gossipOn : List ℕ → List ℕ → Lent
+gossipOn ws bytes = entryOn ofGossip ws bytes
+
+unfoldable pub gossipStop : List ℕ → List ℕ → Option Reply
+gossipStop ws bytes = entryStop ofGossip ws bytes
 
 unfoldable pub tapOn : List ℕ → List ℕ → Lent
-tapOn ws bytes = onBook ws (hearTap (bookOf ws) bytes)
+tapOn ws bytes = entryOn ofTap ws bytes
 
 unfoldable pub tapStop : List ℕ → List ℕ → Option Reply
-tapStop ws bytes =
-    let b = bookOf ws in
-    stopOn (lawful ws) (readable (tapKind (b .screens)) bytes) (firstOf (stops b (tapIn b bytes)))
+tapStop ws bytes = entryStop ofTap ws bytes
+
+unfoldable pub questionOn : List ℕ → List ℕ → Lent
+questionOn ws bytes = entryOn ofQuestion ws bytes
 
 -- the prompt and the label that a question's bytes hold
 abbrev pub promptIn : List ℕ → List ℕ → ℕ
@@ -72,21 +95,6 @@ promptIn ws bytes = getD (lineOf (questionKind (bookOf ws .screens)) bytes) 1 0
 
 abbrev pub labelIn : List ℕ → List ℕ → Stamp
 labelIn ws bytes = stampAt 2 (lineOf (questionKind (bookOf ws .screens)) bytes)
-
-abbrev pub hearQuestion : Book → List ℕ → Outcome
-hearQuestion b bytes = heard (readable (questionKind (b .screens)) bytes) b (step b (questionIn b bytes))
-
-unfoldable pub questionOn : List ℕ → List ℕ → Lent
-questionOn ws bytes = onBook ws (hearQuestion (bookOf ws) bytes)
-
-abbrev pub hearGossip : Book → List ℕ → Outcome
-hearGossip b bytes = heard (wellFormed bytes) b (step b (gossipIn bytes))
-
-unfoldable pub gossipOn : List ℕ → List ℕ → Lent
-gossipOn ws bytes = onBook ws (hearGossip (bookOf ws) bytes)
-
-unfoldable pub gossipStop : List ℕ → List ℕ → Option Reply
-gossipStop ws bytes = stopOn (lawful ws) (wellFormed bytes) (firstOf (stops (bookOf ws) (gossipIn bytes)))
 
 -- send: 11, then 12; the message at the front of the output, the rest of which stays; the book does not change
 abbrev pub putFront : List ℕ → List ℕ → Output

@@ -1,6 +1,5 @@
 -- Laws: on the words of a sound book an operation is the step of that book; send answers by its list of stops; a
--- promise has one
--- outcome. Assumes nothing.
+-- promise has one outcome. Assumes nothing.
 use Prim.Native.Nat.{ℕ}
 use mathlib.Core.Path.{_≡_, refl, sym, ap, _∙_}
 use mathlib.Core.Bool.{Bool, true, false, not, cond}
@@ -23,7 +22,7 @@ use Rattle.meaning.specs.Step.{Outcome, send, sendStops}
 use Rattle.lent.specs.SoundWords.{sound-shape, sound-lawful}
 use Rattle.lent.specs.Words.{bookOf, wordsOf, lawful}
 use Rattle.lent.specs.WordsLaws.{book-words}
-use Rattle.promise.specs.Lent.{Lent, Promise, onBook, hearTap, tapOn, hearQuestion, questionOn, hearGossip, gossipOn, putFront, sendOn}
+use Rattle.promise.specs.Lent.{Entry, hear, entryOn, Lent, Promise, onBook, putFront, sendOn}
 use Rattle.promise.specs.Spoken.{spoken}
 use Rattle.promise.specs.declared.Reply as answer
 use Rattle.promise.specs.declared.Reply.the-variants as says
@@ -52,17 +51,8 @@ module _ (b : Book) (s : Sound b) where
   on-book f = ap (λ (c : Bool). cond c (lentOf (f (bookOf (wordsOf b))))
       (record { reply = refusal 11; words = wordsOf b })) lawful-now ∙ ap (λ (x : Book). lentOf (f x)) book-back
 
-  pub tap-on : (bytes : List ℕ) → tapOn (wordsOf b) bytes ≡ lentOf (hearTap b bytes)
-  unfolding tapOn
-  tap-on bytes = on-book (λ x. hearTap x bytes)
-
-  pub question-on : (bytes : List ℕ) → questionOn (wordsOf b) bytes ≡ lentOf (hearQuestion b bytes)
-  unfolding questionOn
-  question-on bytes = on-book (λ x. hearQuestion x bytes)
-
-  pub gossip-on : (bytes : List ℕ) → gossipOn (wordsOf b) bytes ≡ lentOf (hearGossip b bytes)
-  unfolding gossipOn
-  gossip-on bytes = on-book (λ x. hearGossip x bytes)
+  pub entry-on : (e : Entry) (bytes : List ℕ) → entryOn e (wordsOf b) bytes ≡ lentOf (hear e b bytes)
+  entry-on e bytes = on-book (λ x. hear e x bytes)
 
   pub send-on : (out : List ℕ) → sendOn (wordsOf b) out ≡ putFront (messageBytes (send b)) out
   unfolding sendOn

@@ -1,11 +1,12 @@
 // Requests: what a screen is sent, each kind with its reader and its writer. A gossip message is a head and then
 // records.
-use ledger::FIRST_NUMBER;
 use ledger::in_range;
+use ledger::label_fits;
 use limits::LOG_ROOM;
 use limits::PARTS;
 use numbers::read_fields;
 use stamp::Parts;
+use stamp::list_of;
 use stamp::part_of;
 use stamp::parts_at;
 use stamp::parts_fit;
@@ -33,15 +34,13 @@ use wire::Written;
 use wire::is_kind;
 use wire::put_line;
 ghost use mathlib.Core.Path.{_≡_};
-ghost use mathlib.Core.List.{_∷_, []};
+ghost use mathlib.Core.List.{_∷_};
 ghost use Prim.Native.Nat.{_+_, _≤_};
-ghost use lib.Dec.{leb, ltb};
+ghost use lib.Dec.{leb};
 ghost use lib.ListN.{length};
 ghost use Rattle.lists.specs.Part.{patch};
-ghost use Rattle.lists.specs.Tests.{all};
 ghost use Rattle.limits.specs.Limits.{logRoom};
 ghost use Rattle.stamp.specs.Parts.{listOf};
-ghost use Rattle.stamp.specs.Stamp.{part, stampFits};
 ghost use Rattle.tally.specs.Tap.{fields};
 ghost use Rattle.wire.specs.Kinds.{tapBody, headBody, recordBody, tapMessageBody, questionBody};
 ghost use Rattle.wire.specs.Kinds.{tapAt, headKind, recordKind, tapKind, questionKind, openKind, sendKind};
@@ -208,30 +207,14 @@ pub fn write_head(sender: u64, screens: u64, count: u64, stamp: Parts, out: &mut
     put_line(&ws, HEAD_SIZE, &line, out)
 }
 
-// The rules of a record's origin, number and label in a house of n screens.
-fn label_fits(origin: u64, number: u64, label: Parts, n: usize) -> bool
-    ensures { λ r. ⌜ r ≡ all
-        (ltb origin n ∷ leb 1 number ∷ ltb (part (listOf label) origin) number ∷ stampFits n (listOf label) ∷ []) ⌝ }
-{
-    if n as u64 <= origin {
-        return false;
-    }
-    if number < FIRST_NUMBER {
-        return false;
-    }
-    if number <= part_of(label, origin) {
-        return false;
-    }
-    parts_fit(label, n)
-}
-
 fn record_fits(origin: u64, number: u64, label: Parts, tap: Tap, n: usize, m: Parts) -> bool
     ensures { λ r. ⌜ r ≡ recordKind n (listOf m) .rules (figures (said.Record origin number label tap)) ⌝ }
 {
     if !fits(tap) {
         return false;
     }
-    if !label_fits(origin, number, label, n) {
+    let l = list_of(label);
+    if !label_fits(origin, number, &l, n) {
         return false;
     }
     number <= part_of(m, origin)

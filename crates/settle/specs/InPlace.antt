@@ -1,6 +1,5 @@
 -- Laws: the books between a sound one and the same put in order, when a step writes its rows, then its new records,
--- then settles.
--- Assumes nothing.
+-- then settles. Assumes nothing.
 use Prim.Native.Nat.{_≤_}
 use native.Mathlib.Omega.{arith}
 use mathlib.Core.Path.{_≡_, ap}

@@ -1,6 +1,5 @@
 -- A book's clauses as they are tested, group by group: by the lowest stamp of the table, and without those that follow
--- from the
--- others. Assumes nothing.
+-- from the others. Assumes nothing.
 use Prim.Native.Nat.{ℕ, _+_, _*_}
 use mathlib.Core.Bool.{Bool, not, _||_}
 use mathlib.Core.List.{List, [], _∷_}

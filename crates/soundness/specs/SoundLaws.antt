@@ -31,7 +31,8 @@ use Rattle.log.specs.RowSound.{rowSound, rowsSound-is, recordFits-is}
 use Rattle.meaning.specs.Book.{Book, known, ready, row, waiting, clauses, sound}
 use Rattle.meaning.specs.ReadyKnown.{ready-known}
 use Rattle.lent.specs.Lay.{at-place}
-use Rattle.lent.specs.Words.{Name, pieceOf, place, bookLong, shapeRules, Screen, Screens, Logged, Taps, Table, Value, Log, Counted, Prompts, piece, numberIn, bookOf, inShape, lawful}
+use Rattle.lent.specs.Words.{Name, pieceOf, place, bookLong, shapeRules, Screen, Screens, Logged, Taps, Table, Value}
+use Rattle.lent.specs.Words.{Log, Counted, Prompts, piece, numberIn, bookOf, inShape, lawful}
 use Rattle.lent.specs.WordsLaws.{log-few}
 use Rattle.soundness.specs.Clauses.{fitRules, withinRules, logRules, countedRules, regionRules, pieceRules}
 

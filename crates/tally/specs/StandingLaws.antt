@@ -10,7 +10,8 @@ use lib.Dec.{T, eqb, ltb, ltb→lt, eqb-refl, nltb→le, eqb→eq}
 use lib.ListN.{length, getD, length-map, set, length-set}
 use lib.Seq.{ext-getD, getD-set-same, getD-set-other}
 use borrow.Author.Tests.{ne-eqb, lt-ltb, le-ltb, eq-eqb}
-use Rattle.lists.specs.TestLaws.{keep-le, keep-length, here, bit, is-true, is-false, tell, either, not-from, _∈_, there, keep-all, keep-share, and-r, and-l, both, none-in, mem-keep, keep-mem}
+use Rattle.lists.specs.TestLaws.{keep-le, keep-length, here, bit, is-true, is-false, tell, either, not-from, _∈_, there}
+use Rattle.lists.specs.TestLaws.{keep-all, keep-share, and-r, and-l, both, none-in, mem-keep, keep-mem}
 use Rattle.lists.specs.ElementLaws.{OneMore, at, later, more-count, same-or-not, eq→eqb, more-out, more-in, numbers-at}
 use Rattle.lists.specs.ElementLaws.{numbers-length, bit-apart, keep-some, some-kept}
 use Rattle.lists.specs.Order.{sameKey}

@@ -1,6 +1,5 @@
 -- Laws of the word: word and fields give each other back, the numeric order of words is the order of the five fields,
--- and two
--- taps are the same exactly when the words are. Assumes nothing.
+-- and two taps are the same exactly when the words are. Assumes nothing.
 use Prim.Native.Nat.{ℕ, _/_, _%_, _<_}
 use native.Mathlib.Omega.{arith}
 use mathlib.Core.Path.{_≡_, sym, ap, ap₂, subst, _∙_}

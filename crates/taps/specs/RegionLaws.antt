@@ -1,13 +1,13 @@
 -- Laws of the counted taps' words: taps and words give each other back, what the words' order says of the taps, and
--- what
--- inserting a word comes to. Assumes nothing.
+-- what inserting a word comes to. Assumes nothing.
 use Prim.Native.Nat.{ℕ, suc, _+_, _-_, _≤_, _<_}
 use native.Mathlib.Omega.{arith}
 use mathlib.Core.Path.{_≡_, refl, sym, ap, ap₂, subst, _∙_}
 use mathlib.Core.Bool.{not, _||_}
 use mathlib.Core.List.{List, [], _∷_, _++_, map}
 use lib.Dec.{T, eqb, ltb}
-use lib.ListN.{length, take, drop, replicate, length-append, length-drop, length-map, length-replicate, take-append-drop}
+use lib.ListN.{length, take, drop, replicate, length-append, length-drop, length-map, length-replicate}
+use lib.ListN.{take-append-drop}
 use lib.Seq.{length-take-le, take-at, drop-append-add}
 use Rattle.lists.specs.TestLaws.{_∈_, here, there, clash}
 use Rattle.lists.specs.ElementLaws.{OneMore, at, later, insert-new}

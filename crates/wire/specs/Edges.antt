@@ -7,7 +7,8 @@ use mathlib.Core.List.{List, [], _∷_, _++_}
 use lib.ListN.{replicate}
 use Rattle.lists.specs.Table.{agrees}
 use Rattle.lists.specs.Tests.{numbers, keep}
-use Rattle.limits.specs.Limits.{parts, word, frontEnds, serials, promptCount, showings, accept, decline, fewest, most, logRoom}
+use Rattle.limits.specs.Limits.{parts, word, frontEnds, serials, promptCount, showings, accept, decline, fewest, most}
+use Rattle.limits.specs.Limits.{logRoom}
 use Rattle.stamp.specs.Parts.{partsAt, listOf}
 use Rattle.stamp.specs.Stamp.{Stamp, replace, stampFits}
 use Rattle.tally.specs.Body.{bodyOf as saidOf, bodyFits}
@@ -16,7 +17,9 @@ use Rattle.ledger.specs.Message.{inRange}
 use Rattle.ledger.specs.Record.{recordFits, isKnown, knows}
 use Rattle.numbers.specs.Number.{numberFrom, bytesOf}
 use Rattle.wire.specs.declared.Written.the-variants.{Wrote, Refused}
-use Rattle.wire.specs.Kinds.{partWidth, bitsWidth, Kind, bodyOf, shaped, inTable, headKind, recordKind, tapKind, questionKind, takenKind, alreadyKind, verdictKind, waitKind, refusalKind, gossipTakenKind, openKind}
+use Rattle.wire.specs.Kinds.{partWidth, bitsWidth, Kind, bodyOf, shaped, inTable, headKind, recordKind, tapKind}
+use Rattle.wire.specs.Kinds.{questionKind, takenKind, alreadyKind, verdictKind, waitKind, refusalKind}
+use Rattle.wire.specs.Kinds.{gossipTakenKind, openKind}
 use Rattle.wire.specs.Read.{lineOf, readable}
 use Rattle.wire.specs.Write.{Output, writable, written, writeAs}
 

@@ -153,8 +153,7 @@ recordIn l = record {
 }
 
 -- tap fields in range; origin below N, number at least 1, the label's part for the origin below the number, label parts
--- past N
--- zero; number at most m's part for the origin
+-- past N zero; number at most m's part for the origin
 unfoldable pub recordKind : ℕ → Stamp → Kind
 recordKind n m =
     record {

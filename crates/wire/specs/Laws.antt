@@ -33,7 +33,13 @@ use Rattle.wire.specs.declared.Written.the-variants.{Wrote, Refused}
 use Rattle.wire.specs.declared.Body.{Body}
 use Rattle.wire.specs.declared.Body.the-variants.{Long}
 use Rattle.wire.specs.Said.{figures}
-use Rattle.wire.specs.Kinds.{Kind, widths, size, lookup, bodies, bodyOf, isLong, shaped, headKind, recordKind, tapKind, questionKind, takenKind, alreadyKind, verdictKind, waitKind, refusalKind, gossipTakenKind, openKind, sendKind, headNumber, recordNumber, tapNumber, questionNumber, takenNumber, alreadyNumber, verdictNumber, waitNumber, refusalNumber, gossipTakenNumber, openNumber, sendNumber, headBody, recordBody, tapMessageBody, questionBody, takenBody, alreadyBody, verdictBody, waitBody, refusalBody, gossipTakenBody, openBody, sendBody}
+use Rattle.wire.specs.Kinds.{Kind, widths, size, lookup, bodies, bodyOf, isLong, shaped, headKind, recordKind}
+use Rattle.wire.specs.Kinds.{tapKind, questionKind, takenKind, alreadyKind, verdictKind, waitKind, refusalKind}
+use Rattle.wire.specs.Kinds.{gossipTakenKind, openKind, sendKind, headNumber, recordNumber, tapNumber}
+use Rattle.wire.specs.Kinds.{questionNumber, takenNumber, alreadyNumber, verdictNumber, waitNumber, refusalNumber}
+use Rattle.wire.specs.Kinds.{gossipTakenNumber, openNumber, sendNumber, headBody, recordBody, tapMessageBody}
+use Rattle.wire.specs.Kinds.{questionBody, takenBody, alreadyBody, verdictBody, waitBody, refusalBody}
+use Rattle.wire.specs.Kinds.{gossipTakenBody, openBody, sendBody}
 use Rattle.wire.specs.Read.{lineOf, readable, readAs}
 use Rattle.wire.specs.Returns.{fit-length}
 use Rattle.wire.specs.Write.{Output, Meets, refuse, writable, written, writeAs}

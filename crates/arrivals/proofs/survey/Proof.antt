@@ -6,7 +6,8 @@ use lib.ListN.{length, drop}
 use Rattle.ledger.specs.Log.{unknowns}
 use Rattle.log.specs.Region.{recordAt}
 use Rattle.log.specs.Held.{climb}
-use Rattle.message.specs.Message.{countIn, recordsIn}
+use Rattle.wire.specs.Head.{countIn}
+use Rattle.message.specs.Message.{recordsIn}
 use Rattle.arrivals.proofs.Turn.{climb-more, new-more, climb-end, new-end}
 use borrow.Author.Needs.{needs}
 use Rattle.arrivals.proofs.survey.Statement.{statement}

@@ -13,7 +13,7 @@ use Rattle.message.specs.Tags.{not-this}
 use Rattle.meaning.specs.Step.{ask}
 use Rattle.lent.specs.SoundWords.{lawful-held}
 use Rattle.lent.specs.Words.{bookOf, lawful}
-use Rattle.promise.specs.Lent.{hearQuestion, questionOn}
+use Rattle.promise.specs.Lent.{questionOn, hear, ofQuestion}
 use Rattle.book.specs.Heard.{owes-unsound, owes-unread, question-fits, question-owes}
 use Rattle.book.proofs.question.Statement.{statement}
 use Rattle.book.proofs.question.Tie as tie
@@ -27,7 +27,7 @@ unfolding questionOn
 returns c =
     let s = c .before .before .before .before .args in
     owes-unsound (s .b .now) (sym (c .before .sound .ensures) ∙ not-true _ (c .if1 .taken))
-    (hearQuestion (bookOf (s .b .now)) (s .msg .now))
+    (hear ofQuestion (bookOf (s .b .now)) (s .msg .now))
 
 screens-of-requires : tie.Need-screens-of-requires
 screens-of-requires c κs =

@@ -9,9 +9,11 @@ use Rattle.lists.specs.Part.{mid}
 use Rattle.wire.specs.Kinds.{headKind, headLong, recordLong}
 use Rattle.wire.specs.declared.Said.the-variants as said
 use Rattle.message.specs.Tags.{not-this}
-use Rattle.message.specs.Message.{countIn, partsOf, recordParts, wellFormed}
+use Rattle.wire.specs.Head.{countIn}
+use Rattle.message.specs.Message.{partsOf, recordParts, wellFormed}
 use Rattle.message.specs.Find.{placeOf}
-use Rattle.message.specs.FindLaws.{end-part, none-refused, start-refused, place-next, found, none-found, start-some, start-none}
+use Rattle.message.specs.FindLaws.{end-part, none-refused, start-refused, place-next, found, none-found}
+use Rattle.message.specs.FindLaws.{start-some, start-none}
 use Rattle.message.specs.Told.{gossip-told, gossip-untold, head-count, well-long}
 use Rattle.message.proofs.records_of.Statement.{statement}
 use Rattle.message.proofs.records_of.Tie as tie

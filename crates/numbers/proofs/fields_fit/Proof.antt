@@ -1,5 +1,4 @@
--- `numbers::fields_fit` meets its contract: the fields from i on decide.
--- Assumes nothing.
+-- `numbers::fields_fit` meets its contract: the fields from i on decide. Assumes nothing.
 use mathlib.Core.Path.{_≡_, sym, _∙_}
 use Prim.Native.Nat.{_-_, _≤_}
 use native.Mathlib.Omega.{arith}

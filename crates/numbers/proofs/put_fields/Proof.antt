@@ -1,6 +1,5 @@
 -- `numbers::put_fields` meets its contract: what is written so far, then the rest of the row over the rest of the
--- bytes.
--- Assumes nothing.
+-- bytes. Assumes nothing.
 use mathlib.Core.Path.{_≡_, sym, _∙_}
 use mathlib.Core.List.{_++_}
 use Prim.Native.Nat.{_+_, _-_, _≤_, _<_}

@@ -1,5 +1,4 @@
--- `open_step::clear` meets its contract: zeros so far, then as many zeros as are left.
--- Assumes nothing.
+-- `open_step::clear` meets its contract: zeros so far, then as many zeros as are left. Assumes nothing.
 use mathlib.Core.Path.{_≡_, refl, sym, _∙_}
 use mathlib.Core.List.{_++_, append-nil}
 use Prim.Native.Nat.{_≤_, _-_}

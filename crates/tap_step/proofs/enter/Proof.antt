@@ -11,7 +11,8 @@ use Rattle.meaning.specs.Step.{newRecord}
 use Rattle.meaning.specs.StepLaws.{new-origin}
 use Rattle.lent.specs.Words.{bookOf}
 use borrow.Author.Needs.{needs}
-use Rattle.tap_step.proofs.Entered.{raised-held, raised-fresh, raised-room, put-held, put-me, put-ready, put-settled}
+use Rattle.tap_step.proofs.Entered.{raised-held, raised-fresh, raised-room, put-held, put-me, put-ready}
+use Rattle.tap_step.proofs.Entered.{put-settled}
 use Rattle.tap_step.proofs.Turn.{own-small}
 use Rattle.tap_step.proofs.enter.Statement.{statement}
 use Rattle.tap_step.proofs.enter.Tie as tie

@@ -1,9 +1,9 @@
--- `log::part_at` meets its contract. Assumes nothing.
+-- `stamp::part_at` meets its contract. Assumes nothing.
 use mathlib.Core.Path.{sym}
 use lib.ListN.{List·getD-eq-default}
 use borrow.Author.Needs.{needs}
-use Rattle.log.proofs.part_at.Statement.{statement}
-use Rattle.log.proofs.part_at.Tie as tie
+use Rattle.stamp.proofs.part_at.Statement.{statement}
+use Rattle.stamp.proofs.part_at.Tie as tie
 
 returns : tie.Need-returns
 returns c = sym (List·getD-eq-default (c .before .args .s .now) 0 (c .if1 .taken))
