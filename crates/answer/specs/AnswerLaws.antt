@@ -2,11 +2,9 @@
 --     short, front          what answering owes where the output is shorter than the reply, and where it is not
 --     gossip-done ..        which request the byte of kind tells
 --     good-gossip ..        every line of the table of requests is as it should be
---     within, room-most     a reply is never empty, and is within the room told beforehand, which is never over the
---     longest message's
+--     within, room-most     a reply is never empty, and is within the room told beforehand; no room is over the longest
 --     twelve-exactly        12 exactly where the output is shorter than the very reply
---     answered, unanswered  with the room told beforehand every message is answered; a message that is not answered
---     changed nothing
+--     answered, unanswered  with the room told beforehand every message is answered; one that is not changes nothing
 --     answer-keeps          a reply other than Taken and gossip taken leaves every word as it was
 --     one-answer            two outcomes that both meet the promise are equal
 use Prim.Native.Nat.{ℕ, _+_, _*_, _≤_, _<_}

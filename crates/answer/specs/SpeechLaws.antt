@@ -1,15 +1,11 @@
 -- Laws of replies as bytes. Assumes nothing.
---     said-figures                                an answer's values are those of the message that says it
---     say-said                                    so writing an answer is writing that message
---     reply-long                                  a reply's bytes are as many as its kind has
---     says-put                                    a reply stands at the output's front, or 12 where the output
---     is
---     shorter
---     tap-says, question-says, gossip-says        every reply of an operation can be written, whatever the
---     words and
---     the bytes
---     open-says                                   and so can open's refusals
---     tap-long, question-long, gossip-long        and how long it is at most
+--     said-figures    an answer's values are those of the message that says it
+--     say-said        so writing an answer is writing that message
+--     reply-long      a reply's bytes are as many as its kind has
+--     says-put        a reply stands at the output's front, or 12 where the output is shorter
+--     tap-says ..     every reply of an operation can be written, whatever the words and the bytes
+--     open-says       and so can open's refusals
+--     tap-long ..     and how long it is at most
 use Prim.Native.Nat.{ℕ, zero, suc, _+_, _^_, _≤_, _<_}
 use native.Mathlib.Omega.{arith}
 use mathlib.Core.Path.{_≡_, refl, sym, ap, subst, _∙_}

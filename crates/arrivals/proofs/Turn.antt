@@ -3,12 +3,12 @@ use Prim.Native.Nat.{ℕ, suc, _+_, _-_, _*_, _≤_, _<_}
 use native.Mathlib.Numerals.{add-one}
 use native.Mathlib.Omega.{arith}
 use mathlib.Core.Path.{_≡_, sym, ap, ap₂, subst, _∙_}
+use mathlib.Core.Logic.{_≢_}
 use mathlib.Core.Bool.{true, false, not}
 use mathlib.Core.List.{List, [], _∷_, _++_, map, append-nil}
 use lib.Dec.{T, leb}
 use lib.ListN.{length, getD, take, drop, drop-of-length-le}
 use lib.Seq.{take-all, take-suc, drop-cons}
-use types.Run.{OneOf}
 use Rattle.limits.specs.Limits.{parts}
 use Rattle.lists.specs.TestLaws.{and-r, bit, is-true, keep-length}
 use Rattle.lists.specs.Order.{rising}
@@ -36,7 +36,6 @@ use Rattle.wire.specs.Head.{countIn}
 use Rattle.message.specs.Message.{recordsKind, recordParts, recordFrom, recordsIn, inOrder, wellFormed}
 use Rattle.message.specs.MessageLaws.{length-records, record-held}
 use Rattle.message.specs.Parts.{part-rules}
-use Rattle.message.specs.Tags.{tagIn, othersThan, not-this}
 use Rattle.message.specs.Told.{well-long, well-order}
 use Rattle.arrivals.specs.Head.{Head, recordNo}
 
@@ -70,13 +69,13 @@ module _ (bytes : List ℕ) (n : ℕ) (m : Stamp) (h : Head bytes n m) (i : ℕ)
 
   pub never-other :
       (v : Said) → v ≡ readAs (recordKind n m) (partAt i bytes)
-      → OneOf (othersThan 1) (tagIn v) → ⊥
+      → ((o q : ℕ) (p : Parts) (t : Tap) → v ≢ said.Record o q p t) → ⊥
   unfolding readAs recordKind
   never-other v read other =
       let line = lineOf (recordKind n m) (partAt i bytes) in
       let e : v ≡ said.Record (getD line 1 0) (getD line 2 0) (partsAt 3 line) (tapAt (3 + parts) line) = read
       ∙ rw (is-true (readable (recordKind n m) (partAt i bytes)) readable-at) in
-      not-this v (said.Record (getD line 1 0) (getD line 2 0) (partsAt 3 line) (tapAt (3 + parts) line)) other tt e
+      other (getD line 1 0) (getD line 2 0) (partsAt 3 line) (tapAt (3 + parts) line) e
 
   module _ (o q : ℕ) (p : Parts) (t : Tap) (read : said.Record o q p t ≡ readAs (recordKind n m) (partAt i bytes)) where
     line-at : lineOf (recordKind n m) (partAt i bytes) ≡ 2 ∷ o ∷ q ∷ listOf p ++ fields t

@@ -1,8 +1,8 @@
 -- Laws: the records of one origin are one part of the message, by place and by content. Assumes nothing.
 --     whole-bytes      the bytes are the head and the records, one after the other
---     found            the part from the first byte of an origin's records to the first of the next origin's is those
---     records
---     start-some       it starts there, start-none   and with no record at the end
+--     found            an origin's records are the part from their first byte to the first of the next origin's
+--     start-some       it starts there
+--     start-none       and with no record at the end
 --     origin-rows      the rows of what is found are just the records of that origin, in order
 --     origin-records   and they hold just the message's records of that origin
 --     one-part         two parts that the promise allows are one: its bytes, its place, and so its pointer and length

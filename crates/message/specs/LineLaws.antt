@@ -1,8 +1,7 @@
 -- Laws: a record and a head as the lines that are written for them. Assumes nothing.
---     record-line, line-record      the line for a record holds that record, and a line that was read is the line for
---     what it holds
---     record-writable               the line for a record that keeps its rules is taken by the writer
---     head-stamp, head-writable     so for the line of a head
+--     record-line, line-record    the line for a record holds it; a line that was read is the line for what it holds
+--     record-writable             the line for a record that keeps its rules is taken by the writer
+--     head-stamp, head-writable   so for the line of a head
 use Prim.Native.Nat.{ℕ, _≤_, _<_, _^_}
 use native.Mathlib.Omega.{arith}
 use mathlib.Core.Path.{_≡_, refl, sym, ap, subst, _∙_}

@@ -5,9 +5,10 @@
 --     bytes-message    well formed bytes are the writing of the message that they hold
 --     well-exactly     so bytes are well formed exactly when they are the writing of a message that keeps every rule
 --     one-message      two byte strings that hold the same message are equal
---     bytes-of-bytes   every element of a writing is a byte, length-bytes-of   its length is fixed by the number of
---     records
---     head-long        its head's length, records-writable   each of its records is taken by the writer
+--     bytes-of-bytes   every element of a writing is a byte
+--     length-bytes-of  its length is fixed by the number of records
+--     head-long        so is its head's
+--     records-writable each of its records is taken by the writer
 --     record-held      record i of a well formed message is readable, and holds the message's record i
 use Prim.Native.Nat.{ℕ, zero, suc, _+_, _*_, _<_}
 use mathlib.Core.Path.{_≡_, refl, sym, ap, ap₂, subst, _∙_}

@@ -1,4 +1,4 @@
--- The tag of a reader's answer; an answer that has another's tag is not this one. Assumes nothing.
+-- A reader's answer that has another's tag is not this one. Assumes nothing.
 use Prim.Native.Nat.{ℕ}
 use mathlib.Core.Path.{ap, subst}
 use mathlib.Core.Logic.{_≢_}
@@ -8,14 +8,15 @@ use lib.Dec.{T, eqb}
 use mir.Val.{hasKey}
 use types.Run.{OneOf, miss}
 use Rattle.lists.specs.Tests.{numbers, keep}
+use Rattle.wire.specs.Said.{saidCases}
 use Rattle.wire.specs.declared.Said.{Said}
 
-abbrev pub tagIn : Said → ℕ
+abbrev tagIn : Said → ℕ
 tagIn v = denote.Enum.Declared.tagOf Rattle.wire.proofs.Said.the-type v
 
 -- the tags of all answers but one
-abbrev pub othersThan : ℕ → List ℕ
-othersThan n = keep (λ k. not (eqb k n)) (numbers 0 13)
+abbrev othersThan : ℕ → List ℕ
+othersThan n = keep (λ k. not (eqb k n)) (numbers 0 saidCases)
 
 pub not-this : (v w : Said) → OneOf (othersThan (tagIn w)) (tagIn v) → T (not (hasKey (othersThan (tagIn w)) (tagIn w)))
     → v ≢ w

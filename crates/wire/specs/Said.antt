@@ -6,6 +6,10 @@ use Rattle.tally.specs.Tap.{fields}
 use Rattle.wire.specs.declared.Said.{Said}
 use Rattle.wire.specs.declared.Said.the-variants as said
 
+-- how many cases there are: one for each kind, and last the one that is no message
+abbrev pub saidCases : ℕ
+saidCases = 13
+
 -- the kind's number, then the values of its fields
 abbrev pub figures : Said → List ℕ
 figures (said.Head sender screens count stamp) = 1 ∷ sender ∷ screens ∷ count ∷ listOf stamp

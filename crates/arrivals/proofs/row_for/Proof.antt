@@ -1,6 +1,7 @@
 -- `arrivals::row_for` meets its contract. Assumes nothing.
 use mathlib.Core.Path.{sym, _∙_}
 use Rattle.stamp.specs.Parts.{listOf}
+use Rattle.message.specs.Tags.{not-this}
 use Rattle.arrivals.proofs.Turn.{part-inside, never-other, tap-bits, record-read}
 use borrow.Author.Needs.{needs}
 use Rattle.arrivals.proofs.row_for.Statement.{statement}
@@ -16,7 +17,7 @@ returns c =
     let r = c .before in
     let s = r .before .before in
     absurd (never-other (s .args .msg .now) (s .args .n) (listOf (s .args .m)) (s .pre .0) (s .args .i) (s .pre .1)
-    (r .record-at .result) (r .record-at .ensures) (c .match .keys2))
+    (r .record-at .result) (r .record-at .ensures) (λ o q p t. not-this _ _ (c .match .keys2) tt))
 
 pack-requires : tie.Need-pack-requires
 pack-requires c κs =
