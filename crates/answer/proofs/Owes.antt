@@ -7,11 +7,12 @@ use mathlib.Core.Bool.{Bool, true, false, cond}
 use mathlib.Core.List.{List, [], _∷_, _++_}
 use mathlib.Core.Option.{none, some}
 use borrow.Author.Tests.{ltb-true, ltb-false, eq-eqb, ne-eqb}
-use lib.Dec.{T, eqb, ltb}
+use lib.Dec.{T, eqb, eqb→eq, ltb}
 use lib.ListN.{length, getD, drop}
 use Rattle.lists.specs.TestLaws.{either, is-true}
+use Rattle.limits.specs.KindNumbers.{takenNumber, gossipTakenNumber}
 use Rattle.wire.specs.Requests.{tapLong, gossipLong}
-use Rattle.wire.specs.Kinds.{openKind}
+use Rattle.wire.specs.Kinds.{messageLong, openKind}
 use Rattle.wire.specs.Read.{lineOf, readable, readAs}
 use Rattle.wire.specs.ReadLaws.{told}
 use Rattle.wire.specs.Write.{Output, Meets, refuse}
@@ -19,7 +20,7 @@ use Rattle.wire.specs.declared.Said.the-variants as said
 use Rattle.wire.specs.declared.Written.{Written}
 use Rattle.wire.specs.declared.Written.the-variants.{Wrote, Refused}
 use Rattle.message.specs.Message.{messageBytes}
-use Rattle.meaning.specs.Reply.{Reply, taken, already, verdict, wait, refusal, gossiped, isTaken, isGossiped}
+use Rattle.meaning.specs.Reply.{Reply, refusal, figures, isTaken, isGossiped}
 use Rattle.meaning.specs.Step.{send}
 use Rattle.lent.specs.Words.{bookLong, bookOf, lawful}
 use Rattle.promise.specs.KeepsLaws.{tap-clear, gossip-clear}
@@ -109,12 +110,7 @@ tap-room ws bytes e = reply-long (tapOn ws bytes .reply) (tap-says ws bytes)
     ∙ taken-long (tapOn ws bytes .reply) (tap-clear ws bytes e)
   where
     taken-long : (r : Reply) → T (isTaken r) → longOf r ≡ tapLong
-    taken-long (taken s) t = refl
-    taken-long (already s) t = refl
-    taken-long (verdict v h a d s) t = absurd t
-    taken-long (wait bits) t = absurd t
-    taken-long (refusal k) t = absurd t
-    taken-long (gossiped new applied) t = absurd t
+    taken-long r t = ap messageLong (eqb→eq (getD (figures r) 0 0) takenNumber t)
 
 pub gossip-room : (ws bytes : List ℕ) → gossipStop ws bytes ≡ none
     → length (bytesFor (gossipOn ws bytes .reply)) ≡ gossipLong
@@ -123,12 +119,7 @@ gossip-room ws bytes e =
     ∙ gossiped-long (gossipOn ws bytes .reply) (gossip-clear ws bytes e)
   where
     gossiped-long : (r : Reply) → T (isGossiped r) → longOf r ≡ gossipLong
-    gossiped-long (taken s) t = absurd t
-    gossiped-long (already s) t = absurd t
-    gossiped-long (verdict v h a d s) t = absurd t
-    gossiped-long (wait bits) t = absurd t
-    gossiped-long (refusal k) t = absurd t
-    gossiped-long (gossiped new applied) t = refl
+    gossiped-long r t = ap messageLong (eqb→eq (getD (figures r) 0 0) gossipTakenNumber t)
 
 -- bytes that are no request
 module _ (ws : List ℕ) where

@@ -6,7 +6,8 @@ use mathlib.Core.List.{List, [], _∷_, _++_, map}
 use mathlib.Core.Option.{some}
 use lib.Dec.{eqb, ltb}
 use lib.ListN.{length, getD, drop}
-use Rattle.wire.specs.Kinds.{openKind, sendKind, longest, headNumber, tapNumber, questionNumber, sendNumber}
+use Rattle.limits.specs.KindNumbers.{headNumber, tapNumber, questionNumber, sendNumber}
+use Rattle.wire.specs.Kinds.{openKind, sendKind, longest}
 use Rattle.wire.specs.Requests.{tapLong, questionLong, gossipLong, refusalLong}
 use Rattle.wire.specs.Read.{lineOf, readable}
 use Rattle.wire.specs.declared.Written.{Written}

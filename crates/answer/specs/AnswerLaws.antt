@@ -18,21 +18,21 @@ use lib.ListN.{length, getD, drop}
 use Rattle.lists.specs.TestLaws.{is-true, and-l}
 use Rattle.limits.specs.LimitLaws.{log-some}
 use Rattle.limits.specs.Limits.{logRoom}
+use Rattle.limits.specs.KindNumbers.{headNumber, tapNumber, questionNumber, takenNumber, gossipTakenNumber, sendNumber}
 use Rattle.wire.specs.Kinds.{refusalKind, sendKind, inTable, bodyOf, isLong, shaped, headLong, longest, recordLong}
-use Rattle.wire.specs.Kinds.{headNumber, tapNumber, questionNumber, takenNumber, gossipTakenNumber, sendNumber}
 use Rattle.wire.specs.Requests.{tapLong, questionLong, gossipLong, refusalLong}
 use Rattle.wire.specs.Read.{readable}
 use Rattle.wire.specs.Write.{writable}
 use Rattle.message.specs.Message.{messageBytes}
 use Rattle.message.specs.MessageLaws.{length-bytes-of}
 use Rattle.meaning.specs.BookLaws.{send-fits}
-use Rattle.meaning.specs.Reply.{Reply, taken, already, verdict, wait, refusal, gossiped, figures}
+use Rattle.meaning.specs.Reply.{Reply, taken, already, verdict, wait, refusal, gossiped}
 use Rattle.meaning.specs.Step.{send}
 use Rattle.lent.specs.SoundWords.{lawful-sound, lawful-held}
 use Rattle.lent.specs.Words.{bookOf, wordsOf, lawful}
 use Rattle.promise.specs.Lent.{Lent, tapOn, questionOn, gossipOn}
 use Rattle.promise.specs.KeepsLaws.{tap-keeps, question-keeps, gossip-keeps}
-use Rattle.answer.specs.KindLaws.{first-taken, first-gossiped}
+use Rattle.answer.specs.KindLaws.{first-of}
 use Rattle.answer.specs.Speech.{bytesFor, sayable, longOf}
 use Rattle.answer.specs.SpeechLaws.{reply-long, tap-says, tap-long, question-says, question-long, gossip-says}
 use Rattle.answer.specs.SpeechLaws.{gossip-long}
@@ -96,11 +96,11 @@ bad-cases P ws one eleven = go (lawful ws)
     go false = eleven
 
 pub unsound-says : T (sayable (refusal 11))
-unfolding writable figures refusalKind inTable
+unfolding writable refusalKind inTable
 unsound-says = tt
 
 pub bad-says : (ws : List ℕ) → T (sayable (badOn ws .reply))
-unfolding writable figures refusalKind inTable
+unfolding writable refusalKind inTable
 bad-says ws = bad-cases (λ r. T (sayable r)) ws tt tt
 
 pub bad-long : (ws : List ℕ) → length (bytesFor (badOn ws .reply)) ≤ refusalLong
@@ -181,7 +181,8 @@ good-gossip =
     record {
       within = λ ws bytes. reply-within gossipLong (gossipOn ws bytes) (gossip-says ws bytes) (gossip-long ws bytes);
       few = omega arith;
-      keeps = λ ws bytes e f. gossip-keeps ws bytes (off (sym (first-gossiped (gossipOn ws bytes .reply))) f);
+      keeps = λ ws bytes e f. gossip-keeps ws bytes
+          (off (sym (first-of gossipTakenNumber (gossipOn ws bytes .reply))) f);
     }
 
 good-tap : Good tapLine
@@ -189,7 +190,7 @@ good-tap =
     record {
       within = λ ws bytes. reply-within tapLong (tapOn ws bytes) (tap-says ws bytes) (tap-long ws bytes);
       few = omega arith;
-      keeps = λ ws bytes e f. tap-keeps ws bytes (off (sym (first-taken (tapOn ws bytes .reply))) e);
+      keeps = λ ws bytes e f. tap-keeps ws bytes (off (sym (first-of takenNumber (tapOn ws bytes .reply))) e);
     }
 
 good-question : Good questionLine

@@ -2,8 +2,9 @@
 use Prim.Native.Nat.{ℕ}
 use mathlib.Core.Bool.{Bool}
 use mathlib.Core.List.{List}
-use Rattle.wire.specs.Requests.{tapLong, questionLong, gossipLong, refusalLong, waitLong}
+use lib.ListN.{getD}
 use Rattle.wire.specs.Kinds.{Kind, takenKind, alreadyKind, verdictKind, waitKind, refusalKind, gossipTakenKind}
+use Rattle.wire.specs.Kinds.{messageLong}
 use Rattle.wire.specs.Write.{Output, writable, written, writeAs}
 use Rattle.wire.specs.declared.Said.{Said}
 use Rattle.wire.specs.declared.Said.the-variants as said
@@ -27,14 +28,9 @@ sayable r = writable (kindOf r) (figures r)
 unfoldable pub bytesFor : Reply → List ℕ
 bytesFor r = written (kindOf r) (figures r)
 
--- how long they are: one byte of kind, and the body
+-- how long they are, by the kind's number
 abbrev pub longOf : Reply → ℕ
-longOf (taken s) = tapLong
-longOf (already s) = tapLong
-longOf (verdict v h a d s) = questionLong
-longOf (wait bits) = waitLong
-longOf (refusal k) = refusalLong
-longOf (gossiped new applied) = gossipLong
+longOf r = messageLong (getD (figures r) 0 0)
 
 -- at the front of an output: 1 where it is not sayable, then 12 where the output is shorter
 unfoldable pub sayOn : Reply → List ℕ → Output

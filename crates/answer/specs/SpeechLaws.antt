@@ -58,7 +58,6 @@ use Rattle.promise.specs.declared.Reply.the-variants as says
 use Rattle.answer.specs.Speech.{kindOf, sayable, bytesFor, longOf, sayOn, saidOf}
 
 pub said-figures : (r : answer.Reply) → wire.figures (saidOf r) ≡ figures (spoken r)
-unfolding figures
 said-figures (says.Taken s) = refl
 said-figures (says.Already s) = refl
 said-figures (says.Verdict v h a d s) = refl
@@ -119,19 +118,19 @@ unfolding word
 stamp-fields n s f = same-width 4 parts s (f .long) (f .words)
 
 say-taken : (n : ℕ) (s : Stamp) → Fits n s → T (within tapLong (taken s))
-unfolding writable figures takenKind
+unfolding writable takenKind
 say-taken n s f = both (fieldsFit stampBody s && true) true
     (both (fieldsFit stampBody s) true (stamp-fields n s f) tt)
     tt
 
 say-already : (n : ℕ) (s : Stamp) → Fits n s → T (within tapLong (already s))
-unfolding writable figures alreadyKind
+unfolding writable alreadyKind
 say-already n s f = both (fieldsFit stampBody s && true) true
     (both (fieldsFit stampBody s) true (stamp-fields n s f) tt) tt
 
 say-verdict : (n v h a d : ℕ) (s : Stamp) → v ≤ 3 → h < 256 ^ 2 → a < 256 ^ 4 → d < 256 ^ 4 → Fits n s
     → T (within questionLong (verdict v h a d s))
-unfolding writable figures verdictKind
+unfolding writable verdictKind
 say-verdict n v h a d s p q x y f =
     both (values && leb v 3) true
     (both values (leb v 3)
@@ -149,14 +148,14 @@ say-verdict n v h a d s p q x y f =
     values = ltb v (256 ^ 1) && (ltb h (256 ^ 2) && counts)
 
 say-wait : (bits : ℕ) → bits < 256 ^ bitsWidth → T (within questionLong (wait bits))
-unfolding writable figures waitKind
+unfolding writable waitKind
 say-wait bits h = both ((ltb bits (256 ^ bitsWidth) && true) && true) true
     (both (ltb bits (256 ^ bitsWidth) && true) true
     (both (ltb bits (256 ^ bitsWidth)) true (lt→ltb bits (256 ^ bitsWidth) h) tt) tt) tt
 
 say-gossiped : (new applied : ℕ) → new < 256 ^ 2 → applied < 256 ^ 2
     → T (within gossipLong (gossiped new applied))
-unfolding writable figures gossipTakenKind
+unfolding writable gossipTakenKind
 say-gossiped new applied p q =
     both ((ltb new (256 ^ 2) && (ltb applied (256 ^ 2) && true)) && true) true
     (both (ltb new (256 ^ 2) && (ltb applied (256 ^ 2) && true)) true
@@ -202,7 +201,7 @@ module _ (b : Book) (s : Sound b) (t : Tap) (l : Stamp) where
       go false later w = later w
 
   tap-stops : Says (within tapLong) (tapStops b t l)
-  unfolding tapStops writable figures refusalKind inTable
+  unfolding tapStops writable refusalKind inTable
   tap-stops =
       (λ h. tt)
       next (λ h. tt)
@@ -255,7 +254,7 @@ verdict-most x = go (ltb 0 (x .accepts)) (ltb 0 (x .declines))
 
 module _ (b : Book) (s : Sound b) (p : ℕ) (l : Stamp) where
   ask-stops : length l ≤ parts → Says (within questionLong) (askStops b p l)
-  unfolding askStops writable figures refusalKind inTable
+  unfolding askStops writable refusalKind inTable
   ask-stops e = (λ h. tt) next (λ h. tt) next (λ h. tt)
       next (λ h. say-wait (excess l (b .value)) (omega (arith, excess-few l (b .value) e))) next end
 
@@ -304,7 +303,7 @@ module _ (b : Book) (m : Message) where
   )
 
   gossip-stops : T (every (λ c. within gossipLong (c .1)) (gossipStops b m))
-  unfolding gossipStops writable figures refusalKind inTable
+  unfolding gossipStops writable refusalKind inTable
   gossip-stops = tt
 
   gossip-within : T (within gossipLong ((gossipStep b m) .reply))
@@ -335,7 +334,7 @@ heard-within n false b o unread h = unread
 
 module _ (ws bytes : List ℕ) where
   tap-fine : T (within tapLong (tapOn ws bytes .reply))
-  unfolding tapOn writable figures refusalKind inTable
+  unfolding tapOn writable refusalKind inTable
   tap-fine =
       let b = bookOf ws in
       let k = tapKind (b .screens) in
@@ -345,7 +344,7 @@ module _ (ws bytes : List ℕ) where
       (tap-within b s (tapAt 1 (lineOf k bytes)) (stampAt 6 (lineOf k bytes))))
 
   question-fine : T (within questionLong (questionOn ws bytes .reply))
-  unfolding questionOn writable figures refusalKind inTable
+  unfolding questionOn writable refusalKind inTable
   question-fine =
       let b = bookOf ws in
       let k = questionKind (b .screens) in
@@ -355,7 +354,7 @@ module _ (ws bytes : List ℕ) where
       (ask-within b s (getD (lineOf k bytes) 1 0) l (omega (arith, length-list (partsAt 2 (lineOf k bytes))))))
 
   gossip-fine : T (within gossipLong (gossipOn ws bytes .reply))
-  unfolding gossipOn writable figures refusalKind inTable
+  unfolding gossipOn writable refusalKind inTable
   gossip-fine =
       let b = bookOf ws in
       on-within gossipLong ws (hear ofGossip b bytes) tt
@@ -384,7 +383,7 @@ module _ (ws bytes : List ℕ) where
   gossip-long = within-long gossipLong (gossipOn ws bytes .reply) gossip-fine
 
 pub open-says : (ws : List ℕ) (i n : ℕ) (r : Reply) → (openOn ws i n) .refused ≡ some r → T (sayable r)
-unfolding openOn openStops writable figures refusalKind inTable
+unfolding openOn openStops writable refusalKind inTable
 open-says ws i n r = go (firstOf stops) refl
   where
     stops : List (Bool × Reply)

@@ -2,17 +2,18 @@
 use Prim.Native.Nat.{ℕ}
 use native.Mathlib.Omega.{arith}
 use mathlib.Core.Path.{_≡_, refl, sym, ap, subst, _∙_}
-use mathlib.Core.Bool.{Bool, true, false, not, cond}
+use mathlib.Core.Bool.{Bool, true, false, not, _&&_, cond}
 use mathlib.Core.List.{List}
 use mathlib.Core.Option.{Option, none, some}
 use borrow.Author.Tests.{eqb-true, not-true}
 use lib.Dec.{T, eqb}
-use lib.ListN.{length}
+use lib.ListN.{length, getD}
 use Rattle.lists.specs.TestLaws.{is-true}
 use Rattle.lists.specs.ElementLaws.{first-passes}
 use Rattle.lists.specs.Tests.{firstOf}
 use Rattle.meaning.specs.Book.{fresh}
-use Rattle.meaning.specs.Reply.{Reply, taken, already, verdict, wait, refusal, gossiped}
+use Rattle.limits.specs.KindNumbers.{refusalNumber}
+use Rattle.meaning.specs.Reply.{Reply, refusal, figures, isOf}
 use Rattle.meaning.specs.Step.{openStops}
 use Rattle.lent.specs.Words.{bookLong, wordsOf}
 use Rattle.promise.specs.Lent.{Opened, openOr, openOn}
@@ -23,12 +24,7 @@ use Rattle.consent.specs.Numbered.{refusedAs, OpensAs}
 
 -- a refusal with a number of its own
 abbrev numbered : Reply → Bool
-numbered (taken s) = true
-numbered (already s) = true
-numbered (verdict v h a d s) = true
-numbered (wait bits) = true
-numbered (refusal k) = not (eqb k 0)
-numbered (gossiped new applied) = true
+numbered r = not (isOf refusalNumber r && eqb (getD (figures r) 1 0) 0)
 
 module _ (ws : List ℕ) (i n : ℕ) where
   open-numbered : (r : Reply) → (openOn ws i n) .refused ≡ some r → T (numbered r)
@@ -64,12 +60,7 @@ module _ (ws : List ℕ) (i n : ℕ) where
 -- an opening's number is settled by what it says
 abbrev numberIn : Option Reply → ℕ
 numberIn none = 0
-numberIn (some (taken s)) = 0
-numberIn (some (already s)) = 0
-numberIn (some (verdict v h a d s)) = 0
-numberIn (some (wait bits)) = 0
-numberIn (some (refusal k)) = k
-numberIn (some (gossiped new applied)) = 0
+numberIn (some r) = getD (figures r) 1 0
 
 number-back : (k : ℕ) → numberIn (refusedAs k) ≡ k
 number-back k = go (eqb k 0) refl

@@ -5,8 +5,9 @@ use mathlib.Core.List.{List, [], _∷_}
 use lib.Dec.{eqb, ltb}
 use lib.ListN.{length}
 use Rattle.limits.specs.Limits.{logRoom}
+use Rattle.limits.specs.KindNumbers.{headNumber, openNumber}
 use Rattle.wire.specs.Head.{countIn}
-use Rattle.wire.specs.Kinds.{bodyOf, headLong, recordLong, headNumber, openNumber}
+use Rattle.wire.specs.Kinds.{bodyOf, headLong, recordLong}
 use Rattle.wire.specs.Requests.{isRequest}
 use Rattle.wire.specs.declared.Body.{Body}
 use Rattle.wire.specs.declared.Body.the-variants.{Long, Bad}

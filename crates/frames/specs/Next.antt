@@ -7,7 +7,8 @@ use lib.Dec.{eqb, leb, ltb}
 use lib.ListN.{length, getD}
 use Rattle.lists.specs.Tests.{allBelow}
 use Rattle.limits.specs.Limits.{logRoom}
-use Rattle.wire.specs.Kinds.{headLong, recordLong, headNumber, recordNumber}
+use Rattle.limits.specs.KindNumbers.{headNumber, recordNumber}
+use Rattle.wire.specs.Kinds.{headLong, recordLong}
 use Rattle.frames.specs.declared.Frame.{Frame}
 use Rattle.frames.specs.declared.Frame.the-variants.{More, Whole, Stop}
 use Rattle.wire.specs.Head.{countIn}

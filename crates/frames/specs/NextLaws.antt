@@ -16,8 +16,9 @@ use Rattle.lists.specs.TestLaws.{allBelow-at, allBelow-from}
 use Rattle.lists.specs.ElementLaws.{below-same}
 use Rattle.lists.specs.Part.{mid-append}
 use Rattle.limits.specs.Limits.{logRoom}
+use Rattle.limits.specs.KindNumbers.{headNumber, recordNumber}
 use Rattle.numbers.specs.Number.{numberOf}
-use Rattle.wire.specs.Kinds.{bodyOf, headLong, longest, recordLong, headNumber, recordNumber}
+use Rattle.wire.specs.Kinds.{bodyOf, headLong, longest, recordLong}
 use Rattle.frames.specs.declared.Frame.{Frame}
 use Rattle.frames.specs.declared.Frame.the-variants.{More, Whole, Stop}
 use Rattle.wire.specs.Head.{countIn, count-place}

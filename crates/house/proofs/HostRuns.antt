@@ -10,8 +10,9 @@ use lib.Dec.{T, eqb, ltb}
 use lib.ListN.{length, getD, take, drop}
 use Rattle.lists.specs.TestLaws.{_∈_, either}
 use Rattle.limits.specs.Limits.{fewest, most}
+use Rattle.limits.specs.KindNumbers.{headNumber, takenNumber}
 use Rattle.ledger.specs.Record.{Record}
-use Rattle.wire.specs.Kinds.{headNumber, takenNumber, sendKind}
+use Rattle.wire.specs.Kinds.{sendKind}
 use Rattle.wire.specs.Read.{readable}
 use Rattle.wire.specs.Write.{Output, refuse}
 use Rattle.wire.specs.declared.Written.the-variants.{Wrote}
@@ -22,7 +23,7 @@ use Rattle.lent.specs.Words.{bookOf, wordsOf, lawful}
 use Rattle.lent.specs.SoundWords.{lawful-held}
 use Rattle.promise.specs.Lent.{Entry, ofGossip, ofTap, ofQuestion, Lent, entryOn, gossipOn, tapOn, questionOn}
 use Rattle.promise.specs.Lent.{putFront, sendOn}
-use Rattle.answer.specs.KindLaws.{first-taken, first-no-head, first-head}
+use Rattle.answer.specs.KindLaws.{first-of, first-no-head, first-head}
 use Rattle.answer.specs.Speech.{bytesFor}
 use Rattle.answer.specs.Answer.{Done, doneBy, sendDone, badOn, kindIn, lineFor, entries, sendLine, doneIn, doneOn}
 use Rattle.answer.specs.Answer.{Answered, kindSaid, answerBy}
@@ -81,7 +82,7 @@ module _ (n : ℕ) (h : LentHouse) (i : ℕ) (u : i < n) (bytes out : List ℕ)
   by-reply made o s =
       by-kind made (doneBy o) s
       ∙ ap₂ (λ (x y : Bool). left made (o .words) (front (bytesFor (o .reply))) x y) (first-no-head (o .reply))
-      (first-taken (o .reply))
+      (first-of takenNumber (o .reply))
 
   abbrev Goes : LentHouse → Type 0
   Goes h′ = LentStep n h h′ ⊎ (h ≡ h′)

@@ -8,7 +8,7 @@ use mathlib.Core.List.{List, [], _∷_, _++_, List·Memᴰ}
 use lib.Dec.{T, eqb}
 use lib.ListN.{length, take}
 use Rattle.ledger.specs.Record.{Record}
-use Rattle.wire.specs.Kinds.{headNumber, takenNumber}
+use Rattle.limits.specs.KindNumbers.{headNumber, takenNumber}
 use Rattle.message.specs.Message.{wellFormed}
 use Rattle.lent.specs.Words.{bookLong}
 use Rattle.promise.specs.Lent.{Entry}

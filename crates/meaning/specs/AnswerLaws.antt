@@ -183,7 +183,7 @@ reading ns =
     (gossiped (getD ns 1 0) (getD ns 2 0))))))
 
 read-figures : (r : Reply) → reading (figures r) ≡ r
-unfolding reading figures
+unfolding reading
 read-figures (taken s) = refl
 read-figures (already s) = refl
 read-figures (verdict v h a d s) = refl

@@ -44,13 +44,13 @@ unfolding word zeros stampFits frontEnds serials promptCount showings accept dec
     bodyOf bodyFits tapsIn among oneIf noted count ofPrompt howMany standingOf standing afresh unasked accepted declined
     contested verdictOf fewest most logRoom bookRoom inRange messageFits stampOf knows isKnown isApplied isWaiting
     everywhere mayGo has recordFits unknowns gathered readyStamp newlyApplied remaining waitingIn allHeld gapless row
-    known ready standingAt waiting fresh holds countedIn clauses sound figures nowReady nowApplied tapsOf nowNoted
+    known ready standingAt waiting fresh holds countedIn clauses sound nowReady nowApplied tapsOf nowNoted
     settle newRecord ownRows takeBook tapStops tapStep askStops answerOf ask send newOnes gossipRows hearBook
     gossipStops gossipStep flatMap
 says o = figures (o .reply)
 
 stopped : List (Bool × Reply) → List ℕ
-unfolding openStops sendStops figures
+unfolding openStops sendStops
 stopped stops = elim (firstOf stops) [ none ↦ [] | some r ↦ figures r ]
 
 -- the taps of cases A and B

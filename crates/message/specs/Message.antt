@@ -8,6 +8,7 @@ use lib.ListN.{length, take, drop}
 use Rattle.lists.specs.Order.{rising}
 use Rattle.lists.specs.Rows.{rows, flat}
 use Rattle.lists.specs.Tests.{every}
+use Rattle.limits.specs.KindNumbers.{headNumber, recordNumber}
 use Rattle.limits.specs.Limits.{parts}
 use Rattle.tally.specs.Tap.{fields, tapOf}
 use Rattle.tally.specs.declared.Tap.{Tap}
@@ -63,10 +64,10 @@ readGossip bytes = cond (wellFormed bytes) (headKind .said (headLine bytes)) (sa
 
 -- the one writing of a message: the lines of its head and of each record
 unfoldable pub headOf : Message → List ℕ
-headOf m = 1 ∷ m .sender ∷ m .screens ∷ length (m .records) ∷ m .stamp
+headOf m = headNumber ∷ m .sender ∷ m .screens ∷ length (m .records) ∷ m .stamp
 
 unfoldable pub lineFor : Record → List ℕ
-lineFor r = 2 ∷ r .origin ∷ r .number ∷ r .label ++ fields (tapOf (r .body))
+lineFor r = recordNumber ∷ r .origin ∷ r .number ∷ r .label ++ fields (tapOf (r .body))
 
 unfoldable pub messageBytes : Message → List ℕ
 messageBytes m = written headKind (headOf m)

@@ -5,11 +5,11 @@ use mathlib.Core.Bool.{Bool, true, false, not}
 use mathlib.Core.List.{List, [], _∷_}
 use mathlib.Core.Option.{Option, none, some}
 use lib.Dec.{eqb}
-use lib.ListN.{length}
+use lib.ListN.{length, getD}
 use Rattle.lists.specs.Tests.{firstOf}
 use Rattle.ledger.specs.Message.{inRange}
 use Rattle.meaning.specs.Book.{fresh}
-use Rattle.meaning.specs.Reply.{Reply, taken, already, verdict, wait, refusal, gossiped}
+use Rattle.meaning.specs.Reply.{Reply, refusal, figures}
 use Rattle.meaning.specs.Step.{openStops}
 use Rattle.lent.specs.Words.{bookLong, wordsOf}
 use Rattle.promise.specs.Lent.{Opened, openOr, openOn}
@@ -42,12 +42,7 @@ module _ (ws : List ℕ) (i n : ℕ) where
 -- an opening is settled by what it says
 abbrev openingOf : Option Reply → code.Opening
 openingOf none = says.Opened
-openingOf (some (taken s)) = says.Opened
-openingOf (some (already s)) = says.Opened
-openingOf (some (verdict v h a d s)) = says.Opened
-openingOf (some (wait bits)) = says.Opened
-openingOf (some (refusal k)) = says.Refused k
-openingOf (some (gossiped new applied)) = says.Opened
+openingOf (some r) = says.Refused (getD (figures r) 1 0)
 
 opening-back : (r : code.Opening) → openingOf (spokenOpening r) ≡ r
 opening-back says.Opened = refl

@@ -13,7 +13,7 @@ use Rattle.wire.specs.Read.{lineOf, readable}
 use Rattle.wire.specs.Write.{Output, Meets, writable, refuse}
 use Rattle.wire.specs.declared.Written.{Written}
 use Rattle.wire.specs.declared.Written.the-variants.{Wrote, Refused}
-use Rattle.meaning.specs.Reply.{Reply, refusal, figures}
+use Rattle.meaning.specs.Reply.{Reply, refusal}
 use Rattle.lent.specs.Words.{bookLong}
 use Rattle.promise.specs.Lent.{openOn}
 use Rattle.open_step.specs.Opening.{Opens, spokenOpening}
@@ -60,7 +60,7 @@ module _ (k : ℕ) (out : List ℕ) (w : Written) (bytes : List ℕ) (t : T (say
   refusal-unsaid j e = let q = wrote in let z : _≡_ {A = ℕ} 0 1 = cc in omega arith
 
 pub one-says : T (sayable (refusal 1))
-unfolding writable figures refusalKind inTable
+unfolding writable refusalKind inTable
 one-says = tt
 
 -- bytes that are said last

@@ -66,7 +66,7 @@ sentBy bytes out (some r) = refuse (getD (figures r) 1 0) out
 
 pub send-first : (ws out : List ℕ) → let bytes = messageBytes (send (bookOf ws)) in
     sendOn ws out ≡ sentBy bytes out (firstOf (sendStops (lawful ws) (length bytes) (length out)))
-unfolding sendOn sendStops figures
+unfolding sendOn sendStops
 send-first ws out = go (lawful ws) (ltb (length out) (length message))
   where
     message : List ℕ

@@ -4,6 +4,9 @@ use mathlib.Core.Bool.{Bool, true, false, _&&_, _||_, cond}
 use mathlib.Core.List.{List, [], _∷_, _++_}
 use lib.Dec.{eqb, leb, ltb}
 use lib.ListN.{length, getD, replicate}
+use Rattle.limits.specs.KindNumbers.{headNumber, recordNumber, tapNumber, questionNumber, takenNumber, alreadyNumber}
+use Rattle.limits.specs.KindNumbers.{verdictNumber, waitNumber, refusalNumber, gossipTakenNumber, openNumber}
+use Rattle.limits.specs.KindNumbers.{sendNumber}
 use Rattle.limits.specs.Limits.{parts, promptCount, logRoom}
 use Rattle.stamp.specs.Stamp.{Stamp, total, stampFits}
 use Rattle.stamp.specs.Parts.{partsAt, listOf}
@@ -58,44 +61,7 @@ tapAt a line = record {
   answer = getD line (a + 4) 0;
 }
 
--- the kinds' numbers
-abbrev pub headNumber : ℕ
-headNumber = 1
-
-abbrev pub recordNumber : ℕ
-recordNumber = 2
-
-abbrev pub tapNumber : ℕ
-tapNumber = 3
-
-abbrev pub questionNumber : ℕ
-questionNumber = 4
-
-abbrev pub takenNumber : ℕ
-takenNumber = 5
-
-abbrev pub alreadyNumber : ℕ
-alreadyNumber = 6
-
-abbrev pub verdictNumber : ℕ
-verdictNumber = 7
-
-abbrev pub waitNumber : ℕ
-waitNumber = 8
-
-abbrev pub refusalNumber : ℕ
-refusalNumber = 9
-
-abbrev pub gossipTakenNumber : ℕ
-gossipTakenNumber = 10
-
-abbrev pub openNumber : ℕ
-openNumber = 11
-
-abbrev pub sendNumber : ℕ
-sendNumber = 12
-
--- their bodies: the widths of their fields
+-- the kinds' bodies: the widths of their fields
 abbrev pub headBody : List ℕ
 headBody = 1 ∷ 1 ∷ 2 ∷ stampBody
 
@@ -263,6 +229,14 @@ bodies =
 
 unfoldable pub bodyOf : ℕ → Body
 bodyOf k = lookup k bodies
+
+-- how long a message of the kind is, its byte of kind too; 1 where there is no such kind
+abbrev pub bodyLong : Body → ℕ
+bodyLong (Long n) = n
+bodyLong (Bad r) = 0
+
+abbrev pub messageLong : ℕ → ℕ
+messageLong k = 1 + bodyLong (lookup k bodies)
 
 -- lengths with the byte of kind: a gossip's head, a record, the longest message (a head and as many records as a log
 -- holds)

@@ -35,9 +35,11 @@ use Rattle.wire.specs.declared.Body.the-variants.{Long}
 use Rattle.wire.specs.Said.{figures}
 use Rattle.wire.specs.Kinds.{Kind, widths, size, lookup, bodies, bodyOf, isLong, shaped, headKind, recordKind}
 use Rattle.wire.specs.Kinds.{tapKind, questionKind, takenKind, alreadyKind, verdictKind, waitKind, refusalKind}
-use Rattle.wire.specs.Kinds.{gossipTakenKind, openKind, sendKind, headNumber, recordNumber, tapNumber}
-use Rattle.wire.specs.Kinds.{questionNumber, takenNumber, alreadyNumber, verdictNumber, waitNumber, refusalNumber}
-use Rattle.wire.specs.Kinds.{gossipTakenNumber, openNumber, sendNumber, headBody, recordBody, tapMessageBody}
+use Rattle.limits.specs.KindNumbers.{headNumber, recordNumber, tapNumber, questionNumber, takenNumber, alreadyNumber}
+use Rattle.limits.specs.KindNumbers.{verdictNumber, waitNumber, refusalNumber, gossipTakenNumber, openNumber}
+use Rattle.limits.specs.KindNumbers.{sendNumber}
+use Rattle.wire.specs.Kinds.{gossipTakenKind, openKind, sendKind}
+use Rattle.wire.specs.Kinds.{headBody, recordBody, tapMessageBody}
 use Rattle.wire.specs.Kinds.{questionBody, takenBody, alreadyBody, verdictBody, waitBody, refusalBody}
 use Rattle.wire.specs.Kinds.{gossipTakenBody, openBody, sendBody}
 use Rattle.wire.specs.Read.{lineOf, readable, readAs}

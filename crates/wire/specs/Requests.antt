@@ -5,7 +5,8 @@ use mathlib.Core.Bool.{Bool, cond}
 use mathlib.Core.List.{List, [], _∷_}
 use lib.Dec.{eqb, ltb}
 use Rattle.stamp.specs.Stamp.{total}
-use Rattle.wire.specs.Kinds.{headNumber, tapNumber, questionNumber, sendNumber, longest, gossipTakenBody}
+use Rattle.limits.specs.KindNumbers.{headNumber, tapNumber, questionNumber, sendNumber}
+use Rattle.wire.specs.Kinds.{longest, gossipTakenBody}
 use Rattle.wire.specs.Kinds.{takenBody, verdictBody, waitBody, refusalBody}
 
 -- how long replies are: gossip taken; taken, and already; a verdict, the longest reply to a question, and wait; a

@@ -4,7 +4,8 @@ use mathlib.Core.Path.{_≡_, refl, ap, _∙_}
 use mathlib.Core.Bool.{true}
 use native.Mathlib.Omega.{arith}
 use Rattle.stamp.specs.Stamp.{total}
-use Rattle.wire.specs.Kinds.{shaped, bodyOf, alreadyNumber, alreadyBody, alreadyKind}
+use Rattle.limits.specs.KindNumbers.{alreadyNumber}
+use Rattle.wire.specs.Kinds.{shaped, bodyOf, alreadyBody, alreadyKind}
 use Rattle.wire.specs.Read.{lineOf}
 use Rattle.wire.specs.Returns.{failed, passed, shaped-long, not-shaped, kept}
 use borrow.Author.Needs.{needs}

@@ -4,7 +4,8 @@ use mathlib.Core.Path.{_≡_, refl, ap, _∙_}
 use mathlib.Core.Bool.{true}
 use native.Mathlib.Omega.{arith}
 use Rattle.stamp.specs.Stamp.{total}
-use Rattle.wire.specs.Kinds.{shaped, bodyOf, takenNumber, takenBody, takenKind}
+use Rattle.limits.specs.KindNumbers.{takenNumber}
+use Rattle.wire.specs.Kinds.{shaped, bodyOf, takenBody, takenKind}
 use Rattle.wire.specs.Read.{lineOf}
 use Rattle.wire.specs.Returns.{failed, passed, shaped-long, not-shaped, kept}
 use borrow.Author.Needs.{needs}

@@ -3,7 +3,8 @@ use mathlib.Core.Path.{_≡_, refl}
 use mathlib.Core.Bool.{true}
 use native.Mathlib.Omega.{arith}
 use Rattle.stamp.specs.Stamp.{total}
-use Rattle.wire.specs.Kinds.{shaped, bodyOf, verdictNumber, verdictBody, verdictKind}
+use Rattle.limits.specs.KindNumbers.{verdictNumber}
+use Rattle.wire.specs.Kinds.{shaped, bodyOf, verdictBody, verdictKind}
 use Rattle.wire.specs.Read.{lineOf}
 use Rattle.wire.specs.Returns.{failed, passed, shaped-long, not-shaped, not-kept, kept}
 use borrow.Author.Needs.{needs}

@@ -2,7 +2,8 @@
 use mathlib.Core.Path.{_≡_, refl}
 use mathlib.Core.Bool.{true}
 use native.Mathlib.Omega.{arith}
-use Rattle.wire.specs.Kinds.{shaped, bodyOf, waitNumber, bitsWidth, waitKind}
+use Rattle.limits.specs.KindNumbers.{waitNumber}
+use Rattle.wire.specs.Kinds.{shaped, bodyOf, bitsWidth, waitKind}
 use Rattle.wire.specs.Read.{lineOf}
 use Rattle.wire.specs.Returns.{failed, passed, shaped-long, not-shaped, kept}
 use borrow.Author.Needs.{needs}

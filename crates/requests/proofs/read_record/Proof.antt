@@ -4,7 +4,8 @@ use mathlib.Core.Bool.{true}
 use native.Mathlib.Omega.{arith}
 use Rattle.stamp.specs.Parts.{listOf, partsAt}
 use Rattle.stamp.specs.Stamp.{total}
-use Rattle.wire.specs.Kinds.{shaped, bodyOf, recordNumber, recordBody, recordKind}
+use Rattle.limits.specs.KindNumbers.{recordNumber}
+use Rattle.wire.specs.Kinds.{shaped, bodyOf, recordBody, recordKind}
 use Rattle.wire.specs.Read.{lineOf}
 use Rattle.wire.specs.Returns.{failed, passed, shaped-long, not-shaped, not-kept, kept}
 use borrow.Author.Needs.{needs}
