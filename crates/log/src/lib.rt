@@ -4,7 +4,6 @@ use limits::PARTS;
 use stamp::Parts;
 use stamp::at_most;
 use stamp::list_of;
-use stamp::part_at;
 use stamp::parts_at;
 use stamp::put_parts;
 ghost use mathlib.Core.Path.{_≡_};
@@ -38,11 +37,16 @@ pub const BODY: usize = LABEL + PARTS;
 // A row's words.
 pub const ROW: usize = BODY + 1;
 
+// Soundness asks this of each row up to five times, so the stamp's part is looked up here and not by a call.
 pub fn is_known(row: &[u64], s: &[u64]) -> bool
     requires { ⌜ length (now row) ≡ rowLong ⌝ }
     ensures { λ r. ⌜ r ≡ isKnown (now (s .entry)) (recordAt (now (row .entry))) ⌝ }
 {
-    row[NUMBER] <= part_at(s, row[ORIGIN])
+    let origin = row[ORIGIN] as usize;
+    if s.len() <= origin {
+        return row[NUMBER] == 0;
+    }
+    row[NUMBER] <= s[origin]
 }
 
 pub fn is_applied(row: &[u64], s: &[u64]) -> bool
