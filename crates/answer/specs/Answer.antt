@@ -69,13 +69,13 @@ sendLine = record { number = sendNumber; room = longest; done = otherDone }
 abbrev pub entries : List Entry
 entries = ofGossip ∷ ofTap ∷ ofQuestion ∷ []
 
-abbrev pub lineFor : Entry → Line
-lineFor ofGossip = gossipLine
-lineFor ofTap = tapLine
-lineFor ofQuestion = questionLine
+abbrev pub entryLine : Entry → Line
+entryLine ofGossip = gossipLine
+entryLine ofTap = tapLine
+entryLine ofQuestion = questionLine
 
 abbrev pub lines : List Line
-lines = map lineFor entries ++ sendLine ∷ []
+lines = map entryLine entries ++ sendLine ∷ []
 
 -- a message is dealt with by the line of its kind; bytes of any other are no request
 abbrev pub doneIn : List Line → List ℕ → List ℕ → Done

@@ -19,7 +19,7 @@ use Rattle.lists.specs.TestLaws.{is-true, and-l}
 use Rattle.limits.specs.LimitLaws.{log-some}
 use Rattle.limits.specs.Limits.{logRoom}
 use Rattle.limits.specs.KindNumbers.{headNumber, tapNumber, questionNumber, takenNumber, gossipTakenNumber, sendNumber}
-use Rattle.wire.specs.Kinds.{refusalKind, sendKind, inTable, bodyOf, isLong, shaped, headLong, longest, recordLong}
+use Rattle.wire.specs.Kinds.{refusalKind, sendKind, inTable, bodyBy, isLong, shaped, headLong, longest, recordLong}
 use Rattle.wire.specs.Requests.{tapLong, questionLong, gossipLong, refusalLong}
 use Rattle.wire.specs.Read.{readable}
 use Rattle.wire.specs.Write.{writable}
@@ -54,7 +54,7 @@ front d ws out h = rw (le-ltb (length out) (length (d .says)) h) (record { gives
 send-kind : (bytes : List ℕ) → readable sendKind bytes ≡ true → eqb (kindIn bytes) 12 ≡ true
 unfolding readable sendKind shaped
 send-kind bytes e =
-    let fits = isLong (bodyOf 12) (length bytes) in
+    let fits = isLong (bodyBy 12) (length bytes) in
     is-true (eqb (kindIn bytes) 12)
     (and-l (eqb (kindIn bytes) 12) fits (and-l (eqb (kindIn bytes) 12 && fits) true (subst T (sym e) tt)))
 

@@ -34,7 +34,8 @@ use Rattle.ledger.specs.Message.{Message}
 use Rattle.ledger.specs.Record.{Record, isApplied, stampOf}
 use Rattle.ledger.specs.RecordLaws.{obeys, stamp-fits}
 use Rattle.wire.specs.Requests.{tapLong, questionLong, gossipLong}
-use Rattle.wire.specs.Kinds.{bitsWidth, size, stampBody, tapKind, questionKind, tapAt, stampAt, takenKind, alreadyKind}
+use Rattle.wire.specs.Kinds.{bitsWidth, sizeOf, stampBody, tapKind, questionKind, tapAt, stampAt, takenKind}
+use Rattle.wire.specs.Kinds.{alreadyKind}
 use Rattle.wire.specs.Kinds.{verdictKind, waitKind, refusalKind, gossipTakenKind, inTable}
 use Rattle.wire.specs.Laws.{length-written}
 use Rattle.wire.specs.Read.{lineOf, readable}
@@ -70,7 +71,7 @@ pub say-said : (r : answer.Reply) (out : List ℕ)
 unfolding sayOn
 say-said r out = ap (λ (line : List ℕ). writeAs (kindOf (spoken r)) line out) (sym (said-figures r))
 
-kind-long : (r : Reply) → size (kindOf r) ≡ longOf r
+kind-long : (r : Reply) → sizeOf (kindOf r) ≡ longOf r
 unfolding takenKind alreadyKind verdictKind waitKind refusalKind gossipTakenKind
 kind-long (taken s) = refl
 kind-long (already s) = refl
@@ -79,7 +80,7 @@ kind-long (wait bits) = refl
 kind-long (refusal k) = refl
 kind-long (gossiped new applied) = refl
 
-bytes-long : (r : Reply) → T (sayable r) → length (bytesFor r) ≡ size (kindOf r)
+bytes-long : (r : Reply) → T (sayable r) → length (bytesFor r) ≡ sizeOf (kindOf r)
 unfolding bytesFor
 bytes-long r t = length-written (kindOf r) (figures r) t
 

@@ -7,7 +7,7 @@ use mathlib.Core.List.{List, [], _∷_}
 use borrow.Author.Tests.{eq-eqb, ne-eqb, lt-ltb, le-ltb}
 use lib.ListN.{length, getD}
 use Rattle.limits.specs.Limits.{logRoom}
-use Rattle.wire.specs.Kinds.{bodyOf, headLong, recordLong}
+use Rattle.wire.specs.Kinds.{bodyBy, headLong, recordLong}
 use Rattle.wire.specs.Head.{countIn}
 use Rattle.frames.specs.Frame.{expected, countEnd, gossipFrame, bodyFrame, kindFrame, frameOf}
 use Rattle.frames.specs.declared.Frame.the-variants.{More, Whole, Stop}
@@ -31,7 +31,7 @@ module _ (read : List ℕ) (opened : Bool) (some : length read ≡ 0 → ⊥) wh
     pub gossips : getD read 0 0 ≡ 1 → gossipFrame read ≡ frameOf read opened
     gossips k = rw (← begun read opened some, e, eq-eqb (getD read 0 0) 1 k)
 
-    pub others : (getD read 0 0 ≡ 1 → ⊥) → bodyFrame (bodyOf (getD read 0 0)) ≡ frameOf read opened
+    pub others : (getD read 0 0 ≡ 1 → ⊥) → bodyFrame (bodyBy (getD read 0 0)) ≡ frameOf read opened
     others k = rw (← begun read opened some, e, ne-eqb (getD read 0 0) 1 k)
 
 module _ (read : List ℕ) where

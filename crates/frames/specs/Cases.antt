@@ -10,7 +10,7 @@ use Rattle.lists.specs.Tests.{numbers, keep}
 use Rattle.limits.specs.Limits.{logRoom}
 use Rattle.numbers.specs.Number.{numberFrom}
 use Rattle.wire.specs.Head.{headLine}
-use Rattle.wire.specs.Kinds.{bodyOf, headKind}
+use Rattle.wire.specs.Kinds.{bodyBy, headKind}
 use Rattle.wire.specs.Read.{lineOf}
 use Rattle.wire.specs.Requests.{replyRoom, isRequest}
 use Rattle.frames.specs.declared.Frame.{Frame}
@@ -55,6 +55,6 @@ table =
     ∷ []
 
 pub framing-practised : agrees table ≡ true
-unfolding shown gossip table mid numberFrom logRoom bodyOf replyRoom isRequest expected headLine lineOf headKind
+unfolding shown gossip table mid numberFrom logRoom bodyBy replyRoom isRequest expected headLine lineOf headKind
     gossipFrame frameOf kindsStand nextOf
 framing-practised = refl

@@ -7,10 +7,10 @@ use lib.ListN.{length}
 use Rattle.limits.specs.Limits.{logRoom}
 use Rattle.limits.specs.KindNumbers.{headNumber, openNumber}
 use Rattle.wire.specs.Head.{countIn}
-use Rattle.wire.specs.Kinds.{bodyOf, headLong, recordLong}
+use Rattle.wire.specs.Kinds.{bodyBy, headLong, recordLong}
 use Rattle.wire.specs.Requests.{isRequest}
-use Rattle.wire.specs.declared.Body.{Body}
-use Rattle.wire.specs.declared.Body.the-variants.{Long, Bad}
+use Rattle.wire.specs.declared.BodyLength.{BodyLength}
+use Rattle.wire.specs.declared.BodyLength.the-variants.{Long, Bad}
 use Rattle.frames.specs.declared.Frame.{Frame}
 use Rattle.frames.specs.declared.Frame.the-variants.{More, Whole, Stop}
 
@@ -29,12 +29,12 @@ gossipFrame read =
     (cond (ltb logRoom (countIn read)) Stop (Whole (headLong + countIn read * recordLong)))
 
 -- of every other kind: one byte of kind, and the kind fixes the body's length
-abbrev pub bodyFrame : Body → Frame
+abbrev pub bodyFrame : BodyLength → Frame
 bodyFrame (Long n) = Whole (1 + n)
 bodyFrame (Bad r) = Stop
 
 abbrev pub kindFrame : ℕ → List ℕ → Frame
-kindFrame k read = cond (eqb k headNumber) (gossipFrame read) (bodyFrame (bodyOf k))
+kindFrame k read = cond (eqb k headNumber) (gossipFrame read) (bodyFrame (bodyBy k))
 
 -- nothing read tells nothing; an unexpected kind and a count above 256 stop the reading
 unfoldable pub frameOf : List ℕ → Bool → Frame

@@ -14,10 +14,10 @@ use lib.ListN.{length, take}
 use Rattle.lists.specs.Part.{mid}
 use Rattle.limits.specs.LimitLaws.{log-some}
 use Rattle.limits.specs.Limits.{logRoom}
-use Rattle.wire.specs.Kinds.{bodyOf, headLong, longest, recordLong}
+use Rattle.wire.specs.Kinds.{bodyBy, headLong, longest, recordLong}
 use Rattle.wire.specs.Laws.{body-few}
-use Rattle.wire.specs.declared.Body.{Body}
-use Rattle.wire.specs.declared.Body.the-variants.{Long, Bad}
+use Rattle.wire.specs.declared.BodyLength.{BodyLength}
+use Rattle.wire.specs.declared.BodyLength.the-variants.{Long, Bad}
 use Rattle.frames.specs.declared.Frame.{Frame}
 use Rattle.frames.specs.declared.Frame.the-variants.{More, Whole, Stop}
 use Rattle.wire.specs.Head.{countIn, count-place}
@@ -82,14 +82,14 @@ gossip-long read n = go (ltb (length read) countEnd) (ltb logRoom (countIn read)
         (omega arith, omega (arith, ltb-false logRoom (countIn read) s))
 
 -- the other kinds
-pub body-settled : (b : Body) (n : ℕ) → bodyFrame b ≡ More n → ⊥
+pub body-settled : (b : BodyLength) (n : ℕ) → bodyFrame b ≡ More n → ⊥
 body-settled (Long m) n e = let z : _≡_ {A = ℕ} 0 1 = cc in omega arith
 body-settled (Bad r) n e = let z : _≡_ {A = ℕ} 0 1 = cc in omega arith
 
-body-long : (k n : ℕ) → bodyFrame (bodyOf k) ≡ Whole n → (1 ≤ n) × (n ≤ longest)
-body-long k n = go (bodyOf k) refl
+body-long : (k n : ℕ) → bodyFrame (bodyBy k) ≡ Whole n → (1 ≤ n) × (n ≤ longest)
+body-long k n = go (bodyBy k) refl
   where
-    go : (b : Body) → bodyOf k ≡ b → bodyFrame b ≡ Whole n → (1 ≤ n) × (n ≤ longest)
+    go : (b : BodyLength) → bodyBy k ≡ b → bodyFrame b ≡ Whole n → (1 ≤ n) × (n ≤ longest)
     go (Long m) s e = let z : 1 + m ≡ n = cc in (omega arith, omega (arith, log-some, body-few k m s))
     go (Bad r) s e = let z : _≡_ {A = ℕ} 0 1 = cc in absurd (omega arith)
 
@@ -103,9 +103,9 @@ unfolding frameOf
 settled [] more opened t = absurd t
 settled (k ∷ rest) more opened t = go (expected opened k) (eqb k 1) t
   where
-    go : (p q : Bool) → T (told (byKind p q (gossipFrame (k ∷ rest)) (bodyFrame (bodyOf k))))
-        → byKind p q (gossipFrame (k ∷ rest ++ more)) (bodyFrame (bodyOf k))
-        ≡ byKind p q (gossipFrame (k ∷ rest)) (bodyFrame (bodyOf k))
+    go : (p q : Bool) → T (told (byKind p q (gossipFrame (k ∷ rest)) (bodyFrame (bodyBy k))))
+        → byKind p q (gossipFrame (k ∷ rest ++ more)) (bodyFrame (bodyBy k))
+        ≡ byKind p q (gossipFrame (k ∷ rest)) (bodyFrame (bodyBy k))
     go true true s = gossip-settled (k ∷ rest) more s
     go true false s = refl
     go false q s = refl
@@ -116,10 +116,10 @@ unfolding frameOf
 more-short [] opened n e = let z : 1 ≡ n = cc in (omega arith, omega arith)
 more-short (k ∷ rest) opened n e = go (expected opened k) (eqb k 1) e
   where
-    go : (p q : Bool) → byKind p q (gossipFrame (k ∷ rest)) (bodyFrame (bodyOf k)) ≡ More n
+    go : (p q : Bool) → byKind p q (gossipFrame (k ∷ rest)) (bodyFrame (bodyBy k)) ≡ More n
         → (length (k ∷ rest) < n) × (n ≤ countEnd)
     go true true w = gossip-short (k ∷ rest) n w
-    go true false w = absurd (body-settled (bodyOf k) n w)
+    go true false w = absurd (body-settled (bodyBy k) n w)
     go false q w = let z : _≡_ {A = ℕ} 0 1 = cc in absurd (omega arith)
 
 pub whole-long : (read : List ℕ) (opened : Bool) (n : ℕ) → frameOf read opened ≡ Whole n → (1 ≤ n) × (n ≤ longest)
@@ -127,7 +127,7 @@ unfolding frameOf
 whole-long [] opened n e = let z : _≡_ {A = ℕ} 0 1 = cc in absurd (omega arith)
 whole-long (k ∷ rest) opened n e = go (expected opened k) (eqb k 1) e
   where
-    go : (p q : Bool) → byKind p q (gossipFrame (k ∷ rest)) (bodyFrame (bodyOf k)) ≡ Whole n → (1 ≤ n) × (n ≤ longest)
+    go : (p q : Bool) → byKind p q (gossipFrame (k ∷ rest)) (bodyFrame (bodyBy k)) ≡ Whole n → (1 ≤ n) × (n ≤ longest)
     go true true w = gossip-long (k ∷ rest) n w
     go true false w = body-long k n w
     go false q w = let z : _≡_ {A = ℕ} 0 1 = cc in absurd (omega arith)
@@ -136,4 +136,4 @@ pub front-tells : (read : List ℕ) (opened : Bool) → frameOf read opened ≡ 
 unfolding frameOf
 front-tells [] opened = refl
 front-tells (k ∷ rest) opened =
-    ap (λ (f : Frame). byKind (expected opened k) (eqb k 1) f (bodyFrame (bodyOf k))) (gossip-front (k ∷ rest))
+    ap (λ (f : Frame). byKind (expected opened k) (eqb k 1) f (bodyFrame (bodyBy k))) (gossip-front (k ∷ rest))

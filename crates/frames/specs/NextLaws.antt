@@ -18,7 +18,7 @@ use Rattle.lists.specs.Part.{mid-append}
 use Rattle.limits.specs.Limits.{logRoom}
 use Rattle.limits.specs.KindNumbers.{headNumber, recordNumber}
 use Rattle.numbers.specs.Number.{numberOf}
-use Rattle.wire.specs.Kinds.{bodyOf, headLong, longest, recordLong}
+use Rattle.wire.specs.Kinds.{bodyBy, headLong, longest, recordLong}
 use Rattle.frames.specs.declared.Frame.{Frame}
 use Rattle.frames.specs.declared.Frame.the-variants.{More, Whole, Stop}
 use Rattle.wire.specs.Head.{countIn, count-place}
@@ -44,7 +44,7 @@ counted [] opened n e = let z : _≡_ {A = ℕ} 0 1 = cc in absurd (omega arith)
 counted (k ∷ rest) opened n e =
     (omega arith, λ one. go (expected opened k) (eqb k headNumber) (eq-eqb k headNumber one) e)
   where
-    go : (p q : Bool) → q ≡ true → cond p (cond q (gossipFrame (k ∷ rest)) (bodyFrame (bodyOf k))) Stop ≡ Whole n
+    go : (p q : Bool) → q ≡ true → cond p (cond q (gossipFrame (k ∷ rest)) (bodyFrame (bodyBy k))) Stop ≡ Whole n
         → (countEnd ≤ length (k ∷ rest)) × (countIn (k ∷ rest) ≤ logRoom)
     go true true f w = let g = gossip-framed (k ∷ rest) n w in (g .0, g .1)
     go true false f w = absurd (subst T (sym f) tt)
@@ -58,7 +58,7 @@ unfolding frameOf
 counted-long [] opened n e one = let z : _≡_ {A = ℕ} 0 1 = cc in absurd (omega arith)
 counted-long (k ∷ rest) opened n e one = go (expected opened k) (eqb k headNumber) (eq-eqb k headNumber one) e
   where
-    go : (p q : Bool) → q ≡ true → cond p (cond q (gossipFrame (k ∷ rest)) (bodyFrame (bodyOf k))) Stop ≡ Whole n
+    go : (p q : Bool) → q ≡ true → cond p (cond q (gossipFrame (k ∷ rest)) (bodyFrame (bodyBy k))) Stop ≡ Whole n
         → headLong + countIn (k ∷ rest) * recordLong ≡ n
     go true true f w = gossip-framed (k ∷ rest) n w .2
     go true false f w = absurd (subst T (sym f) tt)
@@ -210,10 +210,10 @@ unfolding frameOf
 frame-least [] more opened n m e f = let z : 1 ≡ n = cc in omega (arith, whole-long more opened m f .0)
 frame-least (k ∷ rest) more opened n m e f = go (expected opened k) (eqb k headNumber) e f
   where
-    go : (p q : Bool) → cond p (cond q (gossipFrame (k ∷ rest)) (bodyFrame (bodyOf k))) Stop ≡ More n
-        → cond p (cond q (gossipFrame (k ∷ rest ++ more)) (bodyFrame (bodyOf k))) Stop ≡ Whole m → n ≤ m
+    go : (p q : Bool) → cond p (cond q (gossipFrame (k ∷ rest)) (bodyFrame (bodyBy k))) Stop ≡ More n
+        → cond p (cond q (gossipFrame (k ∷ rest ++ more)) (bodyFrame (bodyBy k))) Stop ≡ Whole m → n ≤ m
     go true true a b = omega (arith, gossip-short (k ∷ rest) n a .1, gossip-framed (k ∷ rest ++ more) m b .2)
-    go true false a b = absurd (body-settled (bodyOf k) n a)
+    go true false a b = absurd (body-settled (bodyBy k) n a)
     go false q a b = let z : _≡_ {A = ℕ} 0 1 = cc in absurd (omega arith)
 
 pub next-least : (read more : List ℕ) (opened : Bool) (n m : ℕ) → nextOf read opened ≡ More n

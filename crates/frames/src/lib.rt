@@ -1,7 +1,7 @@
 // The next message of standard input: how many bytes it has, as far as what is read tells, and whether it is whole.
 use limits::log_room;
 use numbers::number_at;
-use wire::Body;
+use wire::BodyLength;
 use wire::HEAD;
 use wire::HEAD_SIZE;
 use wire::KIND_SIZE;
@@ -70,7 +70,7 @@ pub fn frame_of(read: &[u8], opened: bool) -> Frame
         return gossip_frame(read);
     }
     let body = body_of(kind);
-    let Body::Long(long) = body else {
+    let BodyLength::Long(long) = body else {
         return Frame::Stop;
     };
     Frame::Whole(KIND_SIZE + long)

@@ -25,7 +25,7 @@ use Rattle.lent.specs.Words.{bookOf, wordsOf, lawful}
 use Rattle.settle.specs.InPlace.{new-fresh, rows-shape, log-shape, in-place-ready}
 use Rattle.settle.specs.Moves.{settled}
 use Rattle.settle.specs.MovesLaws.{settle-is}
-use Rattle.settle.specs.Ready.{Ready}
+use Rattle.settle.specs.Ready.{Appliable}
 use Rattle.gossip_step.specs.Taken.{raisedRows, Raisable, Coming}
 use Rattle.gossip_step.specs.Heard.{Heard}
 use Rattle.gossip_step.proofs.Message.{sender-is, stamp-is, sender-in, stamp-in, screens-is, records-are}
@@ -127,14 +127,14 @@ module _ (ws bytes : List ℕ) (j n count : ℕ) (m : Stamp) (w : T (lawful ws))
 
           -- the book can be put in order, under the ready stamp that it had
           module _ (before : Stamp) (o′ : before ≡ ready (bookOf ws)) where
-            all-ready : Ready before (ready (bookOf us)) (bookOf us)
+            all-ready : Appliable before (ready (bookOf us)) (bookOf us)
             all-ready = rw (o′, new-book) (in-place-ready b rows new sound-now ready-now)
 
             pub new-gives :
                 length before ≡ stampLong
                 → Held us
                 × (((bookOf us) .me < (bookOf us) .screens)
-                × ((length before ≡ stampLong) × Ready before (ready (bookOf us)) (bookOf us)))
+                × ((length before ≡ stampLong) × Appliable before (ready (bookOf us)) (bookOf us)))
             new-gives long = (new-held, (still-me, (long, all-ready)))
 
             book-settled : wordsOf (settled before (bookOf us)) ≡ wordsOf (hearBook (bookOf ws) (messageOf bytes))

@@ -25,7 +25,7 @@ use Rattle.promise.specs.Lent.{Entry, ofGossip, ofTap, ofQuestion, Lent, entryO
 use Rattle.promise.specs.Lent.{putFront, sendOn}
 use Rattle.answer.specs.KindLaws.{first-of, first-no-head, first-head}
 use Rattle.answer.specs.Speech.{bytesFor}
-use Rattle.answer.specs.Answer.{Done, doneBy, sendDone, badOn, kindIn, lineFor, entries, sendLine, doneIn, doneOn}
+use Rattle.answer.specs.Answer.{Done, doneBy, sendDone, badOn, kindIn, entryLine, entries, sendLine, doneIn, doneOn}
 use Rattle.answer.specs.Answer.{Answered, kindSaid, answerBy}
 use Rattle.answer.specs.AnswerLaws.{within, first-said}
 use Rattle.house.specs.House.{put, grown, Step}
@@ -101,7 +101,7 @@ module _ (n : ℕ) (h : LentHouse) (i : ℕ) (u : i < n) (bytes out : List ℕ)
   by-entry e s l =
       subst Goes (sym (by-reply (madeBy e ws bytes) (entryOn e ws bytes) s)) (inl (hears i u e bytes (may-come e)))
 
-  by-entry-line : (e : Entry) → Steps (madeBy e ws bytes) (lineFor e .done ws bytes)
+  by-entry-line : (e : Entry) → Steps (madeBy e ws bytes) (entryLine e .done ws bytes)
   unfolding gossipOn tapOn questionOn
   by-entry-line ofGossip = by-entry ofGossip
   by-entry-line ofTap = by-entry ofTap
@@ -174,15 +174,15 @@ module _ (n : ℕ) (h : LentHouse) (i : ℕ) (u : i < n) (bytes out : List ℕ)
       go false d = by-bad
 
   -- the table of requests, entry by entry
-  by-entries : (es : List Entry) → Steps (madeIn es ws bytes) (doneIn (map lineFor es ++ sendLine ∷ []) ws bytes)
+  by-entries : (es : List Entry) → Steps (madeIn es ws bytes) (doneIn (map entryLine es ++ sendLine ∷ []) ws bytes)
   by-entries [] = by-other
-  by-entries (e ∷ es) = go (eqb (kindIn bytes) (lineFor e .number)) (by-entries es)
+  by-entries (e ∷ es) = go (eqb (kindIn bytes) (entryLine e .number)) (by-entries es)
     where
       rest : Done
-      rest = doneIn (map lineFor es ++ sendLine ∷ []) ws bytes
+      rest = doneIn (map entryLine es ++ sendLine ∷ []) ws bytes
 
       go : (c : Bool) → Steps (madeIn es ws bytes) rest
-          → Steps (cond c (madeBy e ws bytes) (madeIn es ws bytes)) (cond c (lineFor e .done ws bytes) rest)
+          → Steps (cond c (madeBy e ws bytes) (madeIn es ws bytes)) (cond c (entryLine e .done ws bytes) rest)
       go true later = by-entry-line e
       go false later = later
 

@@ -16,7 +16,7 @@ use Rattle.ledger.specs.Record.{Record}
 use Rattle.meaning.specs.Book.{known, Book}
 use Rattle.meaning.specs.BookLaws.{fresh-known}
 use Rattle.meaning.specs.Step.{newRecord, ownRows, takeBook, gossipRows, newOnes, hearBook}
-use Rattle.meaning.specs.StepLaws.{new-number, new-origin, own-now, nextOf, gossip-now}
+use Rattle.meaning.specs.StepLaws.{new-number, new-origin, own-now, nextKnown, gossip-now}
 use Rattle.house.specs.Demand.{rightNumbers}
 use Rattle.house.specs.House.{House, afterSend, put, onward, Run, openHouse, opened}
 use Rattle.house.proofs.Invariant.{knownOf, Inv, known-either}
@@ -68,7 +68,7 @@ course-numbered n {h} v c (took i u x l d) = record { own = own; right = right }
           keep-length (λ r. eqb (r .origin) k) rec (h .history),
           same-bit (rec .origin) k (new-origin b x l ∙ mine ∙ sym (e .0)),
           c .own k y,
-          subst (λ (j : ℕ). part (nextOf b) j ≡ suc (part (known b) j)) (mine ∙ sym (e .0))
+          subst (λ (j : ℕ). part (nextKnown b) j ≡ suc (part (known b) j)) (mine ∙ sym (e .0))
               (part-replaced (known b) (b .me) (suc (part (known b) (b .me)))),
           ap (λ (z : ℕ). part (knownOf h z) k) (e .0),
         ))

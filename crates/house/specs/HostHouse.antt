@@ -12,14 +12,14 @@ use Rattle.limits.specs.KindNumbers.{headNumber, takenNumber}
 use Rattle.message.specs.Message.{wellFormed}
 use Rattle.lent.specs.Words.{bookLong}
 use Rattle.promise.specs.Lent.{Entry}
-use Rattle.answer.specs.Answer.{kindIn, lineFor, entries, kindSaid, answerOn}
+use Rattle.answer.specs.Answer.{kindIn, entryLine, entries, kindSaid, answerOn}
 use Rattle.house.specs.House.{put, Step}
 use Rattle.house.specs.LentHouse.{LentHouse, openLent, madeBy, held, LentDemand}
 
 -- the records that bytes make where they are taken, by the entry of their kind
 abbrev pub madeIn : List Entry → List ℕ → List ℕ → List Record
 madeIn [] ws bytes = []
-madeIn (e ∷ es) ws bytes = cond (eqb (kindIn bytes) (lineFor e .number)) (madeBy e ws bytes) (madeIn es ws bytes)
+madeIn (e ∷ es) ws bytes = cond (eqb (kindIn bytes) (entryLine e .number)) (madeBy e ws bytes) (madeIn es ws bytes)
 
 -- after a call on screen i: a reply of kind 1 is gossip that the screen has sent, a reply of kind 5 says that the bytes
 -- are taken

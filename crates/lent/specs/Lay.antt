@@ -20,10 +20,10 @@ use Rattle.lists.specs.Part.{mid, patch, length-mid}
 use Rattle.lists.specs.Pieces.{sumOf, flat-long, all-parts, piece-ends, piece-at, piece-put}
 use Rattle.lists.specs.Rows.{flat}
 use Rattle.lent.specs.Words.{Name, Screen, Screens, Logged, Taps, Table, Value, Log, Counted, Prompts, Words, tag}
-use Rattle.lent.specs.Words.{order, size, sizes, placeOf, place, from, bookLong, piece, numberIn, lay}
+use Rattle.lent.specs.Words.{order, size, sizes, rankOf, rank, from, bookLong, piece, numberIn, lay}
 
 -- a name stands at its place, each once
-pub at-place : {A : Type 0} (f : Name → A) (d : A) (n : Name) → getD (map f order) (place n) d ≡ f n
+pub at-place : {A : Type 0} (f : Name → A) (d : A) (n : Name) → getD (map f order) (rank n) d ≡ f n
 at-place f d Screen = refl
 at-place f d Screens = refl
 at-place f d Logged = refl
@@ -34,7 +34,7 @@ at-place f d Log = refl
 at-place f d Counted = refl
 at-place f d Prompts = refl
 
-in-order : (n : Name) → place n < length order
+in-order : (n : Name) → rank n < length order
 in-order Screen = omega arith
 in-order Screens = omega arith
 in-order Logged = omega arith
@@ -49,7 +49,7 @@ in-order Prompts = omega arith
 abbrev pub putIn : Words → Name → List ℕ → Words
 putIn w n y m = cond (eqb (tag m) (tag n)) y (w m)
 
-set-place : (w : Words) (n : Name) (y : List ℕ) → set (map w order) (place n) y ≡ map (putIn w n y) order
+set-place : (w : Words) (n : Name) (y : List ℕ) → set (map w order) (rank n) y ≡ map (putIn w n y) order
 set-place w Screen y = refl
 set-place w Screens y = refl
 set-place w Logged y = refl
@@ -63,7 +63,7 @@ set-place w Prompts y = refl
 -- names of one tag are one
 same-name : (m n : Name) → tag m ≡ tag n → m ≡ n
 same-name m n e =
-    sym (at-place (λ k. k) m m) ∙ ap (λ (k : ℕ). getD (map (λ x. x) order) (placeOf k order) m) e
+    sym (at-place (λ k. k) m m) ∙ ap (λ (k : ℕ). getD (map (λ x. x) order) (rankOf k order) m) e
     ∙ at-place (λ k. k) m n
 
 -- every piece has its length
@@ -87,14 +87,14 @@ module _ (w : Words) (l : Laid w) (n : Name) where
   unfolding from
   piece-lay =
       ap (λ (k : ℕ). mid (from n) k (lay w)) (sym (at-place size 0 n))
-      ∙ piece-at (map w order) sizes (place n) (lengths w l order) (in-order n)
+      ∙ piece-at (map w order) sizes (rank n) (lengths w l order) (in-order n)
       ∙ at-place w [] n
 
   pub put-lay : (y : List ℕ) → patch (from n) (size n) (lay w) y ≡ lay (putIn w n y)
   unfolding from
   put-lay y =
       ap (λ (k : ℕ). patch (from n) k (lay w) y) (sym (at-place size 0 n))
-      ∙ piece-put (map w order) sizes (place n) y (lengths w l order) (in-order n)
+      ∙ piece-put (map w order) sizes (rank n) y (lengths w l order) (in-order n)
       ∙ ap flat (set-place w n y)
 
 -- a slice of the one length is its pieces, each within it
@@ -105,7 +105,7 @@ module _ (ws : List ℕ) (e : length ws ≡ bookLong) where
 
   pub piece-in : (n : Name) → from n + size n ≤ length ws
   unfolding from bookLong
-  piece-in n = rw (e, ← at-place size 0 n) (piece-ends sizes (place n) (in-order n))
+  piece-in n = rw (e, ← at-place size 0 n) (piece-ends sizes (rank n) (in-order n))
 
   pub piece-long : (n : Name) → length (piece n ws) ≡ size n
   piece-long n = length-mid (from n) (size n) ws (piece-in n)

@@ -117,16 +117,16 @@ size n = pieceOf n .long
 abbrev pub sizes : List ℕ
 sizes = map size order
 
-abbrev pub placeOf : ℕ → List Name → ℕ
-placeOf k [] = 0
-placeOf k (n ∷ ns) = cond (eqb k (tag n)) 0 (suc (placeOf k ns))
+abbrev pub rankOf : ℕ → List Name → ℕ
+rankOf k [] = 0
+rankOf k (n ∷ ns) = cond (eqb k (tag n)) 0 (suc (rankOf k ns))
 
-abbrev pub place : Name → ℕ
-place n = placeOf (tag n) order
+abbrev pub rank : Name → ℕ
+rank n = rankOf (tag n) order
 
 unfoldable pub from : Name → ℕ
 unfolding size
-from n = sumOf (take (place n) sizes)
+from n = sumOf (take (rank n) sizes)
 
 unfoldable pub bookLong : ℕ
 unfolding size

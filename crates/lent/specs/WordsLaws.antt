@@ -33,7 +33,7 @@ use Rattle.meaning.specs.Book.{Book}
 use Rattle.lent.specs.Lay.{at-place, Laid, lengths, piece-lay, lay-pieces, piece-long}
 use Rattle.lent.specs.Shape.{Shape}
 use Rattle.lent.specs.Words.{Name, Screen, Screens, Logged, Taps, Table, Value, Log, Counted, Prompts, pieceOf}
-use Rattle.lent.specs.Words.{order, size, place, bookLong, piece, numberIn, lay, wordsAt, fill, tableWords}
+use Rattle.lent.specs.Words.{order, size, rank, bookLong, piece, numberIn, lay, wordsAt, fill, tableWords}
 use Rattle.lent.specs.Words.{zeroFrom, wordsOf, bookOf, shapeRules, inShape}
 
 -- the table's words
@@ -106,7 +106,7 @@ module _ (ws : List ℕ) (h : T (inShape ws)) where
   rule-at : (n : Name) → T (pieceOf n .rule (λ m. piece m ws))
   unfolding inShape
   rule-at n = subst T (at-place (λ k. pieceOf k .rule (λ m. piece m ws)) true n)
-      (all-at (shapeRules ws) (suc (place n)) h)
+      (all-at (shapeRules ws) (suc (rank n)) h)
 
   pub screens-few : numberIn Screens ws ≤ most
   screens-few = leb→le (numberIn Screens ws) most (rule-at Screens)

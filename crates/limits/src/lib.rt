@@ -24,7 +24,7 @@ pub const FRONT_ENDS: u64 = 256;
 
 pub const SERIALS: u64 = 4294967296;
 
-pub const PROMPTS: u64 = 64;
+pub const PROMPT_COUNT: u64 = 64;
 
 pub const SHOWINGS: u64 = 65536;
 

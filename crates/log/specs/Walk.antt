@@ -19,16 +19,16 @@ unfoldable pub recordsFrom : ℕ → List ℕ → ℕ → ℕ → List Record
 recordsFrom n r i at = recordsAt (n - i) (drop at r)
 
 -- the record of the row at a place
-unfoldable pub recordFrom : List ℕ → ℕ → Record
-recordFrom r at = recordAt (take rowLong (drop at r))
+unfoldable pub rowRecord : List ℕ → ℕ → Record
+rowRecord r at = recordAt (take rowLong (drop at r))
 
 pub records-all : (n : ℕ) (r : List ℕ) → recordsAt n r ≡ recordsFrom n r 0 0
 unfolding recordsFrom
 records-all n r = rw sub-zero
 
 pub records-next : (n : ℕ) (r : List ℕ) (i at : ℕ) → i < n
-    → recordsFrom n r i at ≡ recordFrom r at ∷ recordsFrom n r (i + 1) (at + rowLong)
-unfolding recordsFrom recordFrom recordsAt rows
+    → recordsFrom n r i at ≡ rowRecord r at ∷ recordsFrom n r (i + 1) (at + rowLong)
+unfolding recordsFrom rowRecord recordsAt rows
 records-next n r i at h =
     let e : n - i ≡ suc (n - (i + 1)) = omega arith in
     rw (e, drop-drop rowLong at r)
@@ -43,8 +43,8 @@ records-none n r i at h =
 abbrev pub lentAt : List ℕ → ℕ → Record
 lentAt r at = recordAt (take (at + rowLong - at) (drop at r))
 
-pub record-lent : (r : List ℕ) (at : ℕ) → lentAt r at ≡ recordFrom r at
-unfolding recordFrom
+pub record-lent : (r : List ℕ) (at : ℕ) → lentAt r at ≡ rowRecord r at
+unfolding rowRecord
 record-lent r at =
     let e : at + rowLong - at ≡ rowLong = omega arith in
     rw e

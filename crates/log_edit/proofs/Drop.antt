@@ -14,7 +14,7 @@ use Rattle.ledger.specs.Record.{Record}
 use Rattle.log.specs.Region.{rowLong, recordAt, recordsAt}
 use Rattle.log.specs.RegionLaws.{length-records}
 use Rattle.log.specs.Lowest.{goesBy}
-use Rattle.log.specs.Walk.{recordsFrom, recordFrom, records-all, records-next, records-none}
+use Rattle.log.specs.Walk.{recordsFrom, rowRecord, records-all, records-next, records-none}
 use Rattle.log_edit.specs.Merge.{stayers, dropped}
 use Rattle.log_edit.specs.RowLaws.{records-snoc, records-same, take-before, flat-records}
 
@@ -58,8 +58,8 @@ closing-start ready low n r =
 
 module _ {ready low : Stamp} {n : ℕ} {r₀ r : List ℕ} {kept i : ℕ} (c : Closing ready low n r₀ r kept i) where
   ahead : i < n → recordsFrom n r₀ i (i * rowLong)
-      ≡ recordFrom r (i * rowLong) ∷ recordsFrom n r₀ (i + 1) ((i + 1) * rowLong)
-  unfolding recordFrom
+      ≡ rowRecord r (i * rowLong) ∷ recordsFrom n r₀ (i + 1) ((i + 1) * rowLong)
+  unfolding rowRecord
   ahead h =
       let e : (i + 1) * rowLong ≡ i * rowLong + rowLong = omega arith in
       rw (e, c .rest) (records-next n r₀ i (i * rowLong) h)
@@ -70,19 +70,19 @@ module _ {ready low : Stamp} {n : ℕ} {r₀ r : List ℕ} {kept i : ℕ} (c : C
       rw e (sym (drop-drop rowLong (i * rowLong) r) ∙ ap (drop rowLong) (c .rest) ∙ drop-drop rowLong (i * rowLong) r₀)
 
   goes-on :
-      i < n → goesBy ready low (recordFrom r (i * rowLong)) ≡ true
+      i < n → goesBy ready low (rowRecord r (i * rowLong)) ≡ true
       → toCome ready low n r₀ i ≡ toCome ready low n r₀ (i + 1)
   unfolding stayers
   goes-on h e = rw (ahead h, e)
 
   stays-on :
-      i < n → goesBy ready low (recordFrom r (i * rowLong)) ≡ false
-      → toCome ready low n r₀ i ≡ recordFrom r (i * rowLong) ∷ toCome ready low n r₀ (i + 1)
+      i < n → goesBy ready low (rowRecord r (i * rowLong)) ≡ false
+      → toCome ready low n r₀ i ≡ rowRecord r (i * rowLong) ∷ toCome ready low n r₀ (i + 1)
   unfolding stayers
   stays-on h e = rw (ahead h, e)
 
   -- the i-th row goes
-  pub closing-off : i < n → goesBy ready low (recordFrom r (i * rowLong)) ≡ true → Closing ready low n r₀ r kept (i + 1)
+  pub closing-off : i < n → goesBy ready low (rowRecord r (i * rowLong)) ≡ true → Closing ready low n r₀ r kept (i + 1)
   closing-off h e =
       let f = c .fewer in
       record {
@@ -106,8 +106,8 @@ module _ {ready low : Stamp} {n : ℕ} {r₀ r : List ℕ} {kept i : ℕ} (c : C
     wide = length-mid (i * rowLong) rowLong r (omega (arith, c .long))
 
     one-more : recordsAt (kept + 1) (patch (kept * rowLong) rowLong r row)
-        ≡ recordsAt kept r ++ (recordFrom r (i * rowLong) ∷ [])
-    unfolding recordFrom mid
+        ≡ recordsAt kept r ++ (rowRecord r (i * rowLong) ∷ [])
+    unfolding rowRecord mid
     one-more =
         let p = patch (kept * rowLong) rowLong r row in
         let l : length p ≡ length r = length-patch (kept * rowLong) rowLong r row room wide in
@@ -119,11 +119,11 @@ module _ {ready low : Stamp} {n : ℕ} {r₀ r : List ℕ} {kept i : ℕ} (c : C
         (mid-patch (kept * rowLong) rowLong r row k wide)
 
     pub closing-on :
-        goesBy ready low (recordFrom r (i * rowLong)) ≡ false
+        goesBy ready low (rowRecord r (i * rowLong)) ≡ false
         → Closing ready low n r₀ (patch (kept * rowLong) rowLong r (mid (i * rowLong) rowLong r)) (kept + 1) (i + 1)
     closing-on e =
         let f = c .fewer in
-        let moved : List Record = recordFrom r (i * rowLong) ∷ [] in
+        let moved : List Record = rowRecord r (i * rowLong) ∷ [] in
         let to-come = toCome ready low n r₀ (i + 1) in
         record {
           within = omega arith;

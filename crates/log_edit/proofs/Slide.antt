@@ -17,7 +17,7 @@ use Rattle.lists.specs.Part.{mid, patch, length-patch, drop-patch}
 use Rattle.lists.specs.Rows.{rows}
 use Rattle.ledger.specs.Record.{Record, place}
 use Rattle.log.specs.Region.{rowLong, recordAt, recordsAt}
-use Rattle.log.specs.Walk.{recordsFrom, recordFrom, records-next, records-none}
+use Rattle.log.specs.Walk.{recordsFrom, rowRecord, records-next, records-none}
 use Rattle.log_edit.specs.Merge.{beforeOf, afterOf, Parted, Shifted, Slid}
 use Rattle.log_edit.specs.OrderLaws.{rising-across}
 use Rattle.log_edit.specs.MergeLaws.{parted}
@@ -44,7 +44,7 @@ pub behind-none : (row r : List ℕ) (i : ℕ) → Behind row r i i
 behind-none row r i = record { within = omega arith; after = rw (records-none i r i (i * rowLong) (omega arith)) tt }
 
 module _ {row r : List ℕ} {i n : ℕ} (b : Behind row r i n) where
-  pub behind-more : (k : ℕ) → n ≡ k + 1 → keyBefore (place (recordAt row)) (place (recordFrom r (k * rowLong))) ≡ true
+  pub behind-more : (k : ℕ) → n ≡ k + 1 → keyBefore (place (recordAt row)) (place (rowRecord r (k * rowLong))) ≡ true
       → Behind row r i k
   behind-more k e t =
       let m : n * rowLong ≡ k * rowLong + rowLong = omega arith in
@@ -68,9 +68,9 @@ module _ {row r : List ℕ} {i n : ℕ} (b : Behind row r i n) where
           m)
 
   pub behind-stop : (k : ℕ) → n ≡ k + 1 → T (rising place (recordsAt i r))
-      → keyBefore (place (recordAt row)) (place (recordFrom r (k * rowLong))) ≡ false → Parted i row r n
+      → keyBefore (place (recordAt row)) (place (rowRecord r (k * rowLong))) ≡ false → Parted i row r n
   behind-stop k e o t =
-      let a = recordFrom r (k * rowLong) in
+      let a = rowRecord r (k * rowLong) in
       let s : recordsAt n r ≡ recordsAt k r ++ (a ∷ []) = rw e (records-snoc k r) in
       let o′ = rising-front place (recordsAt n r) (recordsFrom i r n (n * rowLong))
       (subst (λ (l : List Record). T (rising place l)) (records-split i n r (b .within)) o) in

@@ -17,7 +17,7 @@ use Rattle.lists.specs.Rows.{rows, flat}
 use Rattle.ledger.specs.Record.{Record}
 use Rattle.log.specs.Region.{rowLong, recordAt, rowOf, recordsAt}
 use Rattle.log.specs.RegionLaws.{row-record}
-use Rattle.log.specs.Walk.{recordsFrom, recordFrom}
+use Rattle.log.specs.Walk.{recordsFrom, rowRecord}
 
 pub records-add : (n m : ℕ) (l : List ℕ) → recordsAt (n + m) l ≡ recordsAt n l ++ recordsAt m (drop (n * rowLong) l)
 unfolding recordsAt rows
@@ -36,8 +36,8 @@ records-split i n l h =
     let e : i ≡ n + (i - n) = omega arith in
     ap (λ (k : ℕ). recordsAt k l) e ∙ records-add n (i - n) l
 
-pub records-snoc : (n : ℕ) (l : List ℕ) → recordsAt (n + 1) l ≡ recordsAt n l ++ (recordFrom l (n * rowLong) ∷ [])
-unfolding recordsAt rows recordFrom
+pub records-snoc : (n : ℕ) (l : List ℕ) → recordsAt (n + 1) l ≡ recordsAt n l ++ (rowRecord l (n * rowLong) ∷ [])
+unfolding recordsAt rows rowRecord
 records-snoc n l = records-add n 1 l
 
 records-front : (n : ℕ) (p q : List ℕ) → n * rowLong ≤ length p → recordsAt n (p ++ q) ≡ recordsAt n p

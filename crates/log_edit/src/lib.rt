@@ -13,14 +13,14 @@ ghost use Rattle.lists.specs.Part.{mid, patch};
 ghost use Rattle.ledger.specs.Record.{place};
 ghost use Rattle.log.specs.Region.{rowLong, stampLong, recordAt, recordsAt};
 ghost use Rattle.log.specs.Lowest.{goesBy};
-ghost use Rattle.log.specs.Walk.{recordFrom};
+ghost use Rattle.log.specs.Walk.{rowRecord};
 ghost use Rattle.log_edit.specs.Merge.{Fresh, Parted, Shifted, Slid, merged, Closed};
 
 // Whether the i-th row of r stands after a row.
 fn after_at(r: &[u64], i: usize, row: &[u64]) -> bool
     requires { ⌜ (i * rowLong + rowLong ≤ length (now r)) × (length (now row) ≡ rowLong) ⌝ }
     ensures { λ b. ⌜ b ≡ keyBefore (place (recordAt (now (row .entry))))
-        (place (recordFrom (now (r .entry)) (i * rowLong))) ⌝ }
+        (place (rowRecord (now (r .entry)) (i * rowLong))) ⌝ }
 {
     let at = i * ROW;
     let e = at + ROW;
@@ -91,7 +91,7 @@ pub fn put_one(r: &mut [u64], count: usize, row: &[u64])
 // Whether the i-th row may go.
 fn goes_at(r: &[u64], i: usize, ready: &[u64], low: &[u64]) -> bool
     requires { ⌜ (i * rowLong + rowLong ≤ length (now r)) × (length (now ready) ≡ stampLong) ⌝ }
-    ensures { λ b. ⌜ b ≡ goesBy (now (ready .entry)) (now (low .entry)) (recordFrom (now (r .entry)) (i * rowLong)) ⌝ }
+    ensures { λ b. ⌜ b ≡ goesBy (now (ready .entry)) (now (low .entry)) (rowRecord (now (r .entry)) (i * rowLong)) ⌝ }
 {
     let at = i * ROW;
     let e = at + ROW;

@@ -12,7 +12,7 @@ use Rattle.ledger.specs.Message.{Message}
 use Rattle.ledger.specs.Record.{Record}
 use Rattle.meaning.specs.Book.{Book}
 use Rattle.meaning.specs.Reply.{Reply}
-use Rattle.meaning.specs.Step.{Outcome, stopOr, tapStops, tapStep, newRecord, takeOut, askStops, ask, answered}
+use Rattle.meaning.specs.Step.{Outcome, stopOr, tapStops, tapStep, newRecord, takeOut, askStops, ask, askOut}
 use Rattle.meaning.specs.Step.{gossipStops, gossipStep, hearOut}
 
 -- a tap and a question, each with its label, and a gossip message
@@ -34,10 +34,10 @@ makes b (asked p l) = []
 makes b (told m) = []
 
 -- what it comes to where nothing stops it
-abbrev pub done : Book → Request → Outcome
-done b (tapped t l) = takeOut b (says t) l
-done b (asked p l) = answered b p
-done b (told m) = hearOut b m
+abbrev pub outcome : Book → Request → Outcome
+outcome b (tapped t l) = takeOut b (says t) l
+outcome b (asked p l) = askOut b p
+outcome b (told m) = hearOut b m
 
 -- what it is answered, and the book that it leaves
 abbrev pub step : Book → Request → Outcome
@@ -45,7 +45,7 @@ step b (tapped t l) = tapStep b t l
 step b (asked p l) = ask b p l
 step b (told m) = gossipStep b m
 
-pub step-by : (b : Book) (r : Request) → step b r ≡ stopOr b (done b r) (firstOf (stops b r))
+pub step-by : (b : Book) (r : Request) → step b r ≡ stopOr b (outcome b r) (firstOf (stops b r))
 unfolding tapStep ask gossipStep
 step-by b (tapped t l) = refl
 step-by b (asked p l) = refl

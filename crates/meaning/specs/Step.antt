@@ -124,11 +124,11 @@ askStops b p l =
 unfoldable pub answerOf : Standing → Stamp → Reply
 answerOf s v = verdict (verdictOf s) (s .showing) (s .accepts) (s .declines) v
 
-abbrev pub answered : Book → ℕ → Outcome
-answered b p = record { reply = answerOf (standingAt b p) (b .value); book = b }
+abbrev pub askOut : Book → ℕ → Outcome
+askOut b p = record { reply = answerOf (standingAt b p) (b .value); book = b }
 
 unfoldable pub ask : Book → ℕ → Stamp → Outcome
-ask b p l = stopOr b (answered b p) (firstOf (askStops b p l))
+ask b p l = stopOr b (askOut b p) (firstOf (askStops b p l))
 
 -- Send: the known stamp and the whole log as one gossip message; the book doesn't change
 unfoldable pub send : Book → Message

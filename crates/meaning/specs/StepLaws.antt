@@ -114,22 +114,22 @@ module _ (b : Book) (x : Body) (l : Stamp) where
   new-taps h = word-taps x h
 
 -- the known stamp after it
-abbrev pub nextOf : Book → Stamp
-nextOf b = replace (known b) (b .me) (suc (part (known b) (b .me)))
+abbrev pub nextKnown : Book → Stamp
+nextKnown b = replace (known b) (b .me) (suc (part (known b) (b .me)))
 
 module _ (b : Book) (x : Body) (l : Stamp) (d : TakeDone b x l) where
-  pub own-now : getD (ownRows b) (b .me) [] ≡ nextOf b
+  pub own-now : getD (ownRows b) (b .me) [] ≡ nextKnown b
   unfolding ownRows
-  own-now = getD-set-same (b .table) (b .me) (nextOf b) [] (me-row b (d .sound-before))
+  own-now = getD-set-same (b .table) (b .me) (nextKnown b) [] (me-row b (d .sound-before))
 
-  next-covers : Covers (nextOf b) (known b)
+  next-covers : Covers (nextKnown b) (known b)
   next-covers k =
       either (part-either (known b) (b .me) (suc (part (known b) (b .me))) k)
       (λ e. omega (arith, e .1, ap (λ (j : ℕ). part (known b) j) (e .0))) (λ e. omega (arith, e))
 
-  pub own-row : (j : ℕ) → ((j ≡ b .me) × (getD (ownRows b) j [] ≡ nextOf b)) ⊎ (getD (ownRows b) j [] ≡ row b j)
+  pub own-row : (j : ℕ) → ((j ≡ b .me) × (getD (ownRows b) j [] ≡ nextKnown b)) ⊎ (getD (ownRows b) j [] ≡ row b j)
   unfolding ownRows row
-  own-row j = set-either (b .table) (b .me) (nextOf b) j [] (me-row b (d .sound-before))
+  own-row j = set-either (b .table) (b .me) (nextKnown b) j [] (me-row b (d .sound-before))
 
   new-obeys : T (recordFits bodyFits (b .screens) (newRecord b x l))
   unfolding recordFits newRecord
@@ -148,7 +148,7 @@ module _ (b : Book) (x : Body) (l : Stamp) (d : TakeDone b x l) where
 
   own-rows-long : length (ownRows b) ≡ b .screens
   unfolding ownRows
-  own-rows-long = length-set (b .table) (b .me) (nextOf b) ∙ d .sound-before .rows
+  own-rows-long = length-set (b .table) (b .me) (nextKnown b) ∙ d .sound-before .rows
 
   own-rows-fit : T (every (stampFits (b .screens)) (ownRows b))
   unfolding ownRows
@@ -156,8 +156,8 @@ module _ (b : Book) (x : Body) (l : Stamp) (d : TakeDone b x l) where
       let s = d .sound-before in
       let most = range-parts (b .me) (b .screens) (s .range) in
       let next = suc (part (known b) (b .me)) in
-      every-set (stampFits (b .screens)) (b .table) (b .me) (nextOf b) (s .rows-fit)
-      (fits-test (b .screens) (nextOf b)
+      every-set (stampFits (b .screens)) (b .table) (b .me) (nextKnown b) (s .rows-fit)
+      (fits-test (b .screens) (nextKnown b)
       (fits-replace (b .screens) (known b) (b .me) next (known-fits b s) (me-in b s) most next-word))
 
   pub take-ready : Ready b (ownRows b) (newRecord b x l ∷ [])
@@ -179,7 +179,7 @@ module _ (b : Book) (x : Body) (l : Stamp) (d : TakeDone b x l) where
       now : Stamp
       now = getD (ownRows b) (b .me) []
 
-      at : (k : ℕ) → part now k ≡ part (nextOf b) k
+      at : (k : ℕ) → part now k ≡ part (nextKnown b) k
       at k = ap (λ (s : Stamp). part s k) own-now
 
       rise : (j : ℕ) → j < b .screens → Covers (getD (ownRows b) j []) (row b j)

@@ -31,12 +31,12 @@ recordsOf o bytes = flat (ofOrigin o bytes)
 unfoldable pub below : ℕ → List (List ℕ) → ℕ
 below o parts = length (keep (λ part. ltb (originOf part) o) parts)
 
-unfoldable pub placeOf : ℕ → List (List ℕ) → ℕ
-placeOf o parts = headLong + below o parts * recordLong
+unfoldable pub placeFor : ℕ → List (List ℕ) → ℕ
+placeFor o parts = headLong + below o parts * recordLong
 
 -- where the records of an origin start: with none, at the end
 unfoldable pub startOf : ℕ → List ℕ → ℕ
-startOf o bytes = cond (eqb (length (ofOrigin o bytes)) 0) (length bytes) (placeOf o (recordParts bytes))
+startOf o bytes = cond (eqb (length (ofOrigin o bytes)) 0) (length bytes) (placeFor o (recordParts bytes))
 
 -- what is found is just this: the records of an origin, as the very part of the lent message that starts there
 pub record Finds (o : ℕ) (msg part : RefT (List ℕ)) : Type 0 where

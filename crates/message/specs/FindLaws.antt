@@ -32,7 +32,7 @@ use Rattle.wire.specs.Kinds.{recordKind, headLong, recordLong}
 use Rattle.wire.specs.Read.{lineOf, readable}
 use Rattle.wire.specs.Head.{countIn, screensIn, stampIn}
 use Rattle.message.specs.Message.{partsOf, recordParts, recordsKind, recordFrom, recordsIn, inOrder, wellFormed}
-use Rattle.message.specs.Find.{originOf, ofOrigin, recordsOf, below, placeOf, startOf, Finds}
+use Rattle.message.specs.Find.{originOf, ofOrigin, recordsOf, below, placeFor, startOf, Finds}
 use Rattle.message.specs.Runs.{count-next, one-run}
 use Rattle.message.specs.Told.{well-long, well-order}
 
@@ -138,14 +138,14 @@ module _ (bytes : List ℕ) (w : T (wellFormed bytes)) where
         rises)) ∙ flat-append lower (same ++ upper) ∙ ap (λ (l : List ℕ). flat lower ++ l) (flat-append same upper))
 
     -- the next origin's records start past those of this one
-    pub place-next : placeOf (o + 1) (recordParts bytes)
-        ≡ placeOf o (recordParts bytes) + length (ofOrigin o bytes) * recordLong
-    unfolding placeOf below
+    pub place-next : placeFor (o + 1) (recordParts bytes)
+        ≡ placeFor o (recordParts bytes) + length (ofOrigin o bytes) * recordLong
+    unfolding placeFor below
     place-next = rw of-origin (omega (arith, count-next originOf o (recordParts bytes)))
 
-    pub found : mid (placeOf o (recordParts bytes))
-        (placeOf (o + 1) (recordParts bytes) - placeOf o (recordParts bytes)) bytes ≡ recordsOf o bytes
-    unfolding recordsOf placeOf below
+    pub found : mid (placeFor o (recordParts bytes))
+        (placeFor (o + 1) (recordParts bytes) - placeFor o (recordParts bytes)) bytes ≡ recordsOf o bytes
+    unfolding recordsOf placeFor below
     found =
         let h : length (take headLong bytes)
         ≡ headLong = length-take-le headLong bytes (omega (arith, well-long bytes w)) in
@@ -155,24 +155,24 @@ module _ (bytes : List ℕ) (w : T (wellFormed bytes)) where
         let s : length (flat same)
         ≡ length same * recordLong =
         length-flat recordLong same (wide-keep recordLong (λ p. eqb (originOf p) o) (recordParts bytes) wide) in
-        let k : placeOf (o + 1) (recordParts bytes) - placeOf o (recordParts bytes)
+        let k : placeFor (o + 1) (recordParts bytes) - placeFor o (recordParts bytes)
         ≡ length (flat same) = omega (arith, place-next, ap (λ (r : List (List ℕ)). length r) of-origin) in
         ap₂ (λ (a b : ℕ). mid a b bytes) (ap₂ _+_ (sym h) (sym l)) k
         ∙ ap (mid (length (take headLong bytes) + length (flat lower)) (length (flat same))) split
         ∙ middle (take headLong bytes) (flat lower) (flat same) (flat upper)
         ∙ ap flat (sym of-origin)
 
-    pub none-found : placeOf o (recordParts bytes) ≡ placeOf (o + 1) (recordParts bytes) → recordsOf o bytes ≡ []
+    pub none-found : placeFor o (recordParts bytes) ≡ placeFor (o + 1) (recordParts bytes) → recordsOf o bytes ≡ []
     unfolding mid
-    none-found e = let z : placeOf (o + 1) (recordParts bytes) - placeOf o (recordParts bytes) ≡ 0 = omega arith in
+    none-found e = let z : placeFor (o + 1) (recordParts bytes) - placeFor o (recordParts bytes) ≡ 0 = omega arith in
         sym found ∙ rw z
 
-    pub start-some : (placeOf o (recordParts bytes) ≡ placeOf (o + 1) (recordParts bytes) → ⊥)
-        → startOf o bytes ≡ placeOf o (recordParts bytes)
+    pub start-some : (placeFor o (recordParts bytes) ≡ placeFor (o + 1) (recordParts bytes) → ⊥)
+        → startOf o bytes ≡ placeFor o (recordParts bytes)
     unfolding startOf
     start-some n = rw (ne-eqb (length (ofOrigin o bytes)) 0 (λ e. n (omega (arith, place-next))))
 
-    pub start-none : placeOf o (recordParts bytes) ≡ placeOf (o + 1) (recordParts bytes)
+    pub start-none : placeFor o (recordParts bytes) ≡ placeFor (o + 1) (recordParts bytes)
         → startOf o bytes ≡ length bytes
     unfolding startOf
     start-none e = rw (eq-eqb (length (ofOrigin o bytes)) 0 (omega (arith, place-next)))

@@ -16,7 +16,7 @@ ghost use Rattle.stamp.specs.Parts.{listOf};
 ghost use Rattle.wire.specs.Kinds.{recordKind, headLong, recordLong};
 ghost use Rattle.wire.specs.Read.{readAs};
 ghost use Rattle.message.specs.Message.{partsOf, inOrder, readGossip};
-ghost use Rattle.message.specs.Find.{partAt, originOf, below, placeOf, Finds};
+ghost use Rattle.message.specs.Find.{partAt, originOf, below, placeFor, Finds};
 
 // Where a record's origin stands.
 const ORIGIN: usize = 1;
@@ -138,7 +138,7 @@ fn count_below(msg: &[u8], count: usize, o: u64) -> usize
 // The byte at which the records of origin o and above start.
 fn place(msg: &[u8], count: usize, o: u64) -> usize
     requires { ⌜ headLong + count * recordLong ≤ length (now msg) ⌝ }
-    ensures { λ r. ⌜ (r ≡ placeOf o (partsOf count (now (msg .entry)))) × (r ≤ length (now (msg .entry))) ⌝ }
+    ensures { λ r. ⌜ (r ≡ placeFor o (partsOf count (now (msg .entry)))) × (r ≤ length (now (msg .entry))) ⌝ }
 {
     HEAD_SIZE + count_below(msg, count, o) * RECORD_SIZE
 }

@@ -18,44 +18,44 @@ use Rattle.lent.specs.Words.{Name, Screen, Screens, Logged, Taps, Table, Value,
 use Rattle.lent.specs.Words.{size, from, bookLong, lay, wordsAt, tableWords, wordsOf}
 
 -- so many zeros
-abbrev pub blank : ℕ → List ℕ
-blank k = replicate k 0
+abbrev pub blankWords : ℕ → List ℕ
+blankWords k = replicate k 0
 
-flat-zeros : (ns : List Name) → flat (map (λ n. blank (size n)) ns) ≡ blank (sumOf (map size ns))
+flat-zeros : (ns : List Name) → flat (map (λ n. blankWords (size n)) ns) ≡ blankWords (sumOf (map size ns))
 unfolding flat
 flat-zeros [] = refl
-flat-zeros (n ∷ ns) = ap (λ (l : List ℕ). blank (size n) ++ l) (flat-zeros ns)
+flat-zeros (n ∷ ns) = ap (λ (l : List ℕ). blankWords (size n) ++ l) (flat-zeros ns)
     ∙ replicate-append-replicate (size n) (sumOf (map size ns)) 0
 
-rows-zeros : (n : ℕ) → flat (replicate n zeros) ≡ blank (n * parts)
+rows-zeros : (n : ℕ) → flat (replicate n zeros) ≡ blankWords (n * parts)
 unfolding flat zeros
-rows-zeros zero = ap blank (sym (zero-mul parts))
+rows-zeros zero = ap blankWords (sym (zero-mul parts))
 rows-zeros (suc n) =
     let e : parts + n * parts ≡ suc n * parts = sym (suc-mul n parts ∙ omega arith) in
-    ap (λ (l : List ℕ). zeros ++ l) (rows-zeros n) ∙ replicate-append-replicate parts (n * parts) 0 ∙ ap blank e
+    ap (λ (l : List ℕ). zeros ++ l) (rows-zeros n) ∙ replicate-append-replicate parts (n * parts) 0 ∙ ap blankWords e
 
 -- what of each piece is not in use
 abbrev noWords : Words
-noWords n = blank (size n)
+noWords n = blankWords (size n)
 
 laid-zeros : Laid noWords
 laid-zeros n = length-replicate (size n) 0
 
-fresh-table : (n : ℕ) → n ≤ most → tableWords (replicate n zeros) ≡ blank (size Table)
+fresh-table : (n : ℕ) → n ≤ most → tableWords (replicate n zeros) ≡ blankWords (size Table)
 unfolding tableWords size
 fresh-table n h =
     let e : n * parts + (most - n) * parts ≡ size Table = omega arith in
-    ap₂ (λ (l : List ℕ) (k : ℕ). l ++ blank ((most - k) * parts)) (rows-zeros n) (length-replicate n zeros)
+    ap₂ (λ (l : List ℕ) (k : ℕ). l ++ blankWords ((most - k) * parts)) (rows-zeros n) (length-replicate n zeros)
     ∙ replicate-append-replicate (n * parts) ((most - n) * parts) 0
-    ∙ ap blank e
+    ∙ ap blankWords e
 
-fresh-log : logWords logRoom [] ≡ blank (size Log)
+fresh-log : logWords logRoom [] ≡ blankWords (size Log)
 unfolding logWords flat size
-fresh-log = let e : (logRoom - 0) * rowLong ≡ size Log = omega arith in ap blank e
+fresh-log = let e : (logRoom - 0) * rowLong ≡ size Log = omega arith in ap blankWords e
 
-fresh-counted : tapWords bookRoom [] ≡ blank (size Counted)
+fresh-counted : tapWords bookRoom [] ≡ blankWords (size Counted)
 unfolding tapWords size
-fresh-counted = let e : bookRoom - 0 ≡ size Counted = omega arith in ap blank e
+fresh-counted = let e : bookRoom - 0 ≡ size Counted = omega arith in ap blankWords e
 
 module _ (i n : ℕ) (h : n ≤ most) where
   fresh-piece : (m : Name) → putIn (putIn noWords Screen (i ∷ [])) Screens (n ∷ []) m ≡ wordsAt (fresh i n) m
@@ -72,10 +72,10 @@ module _ (i n : ℕ) (h : n ≤ most) where
 
   -- a cleared slice with i and N written
   pub opened-words : (ws : List ℕ) → length ws ≡ bookLong
-      → set (set (blank (length ws)) (from Screen) i) (from Screens) n ≡ wordsOf (fresh i n)
+      → set (set (blankWords (length ws)) (from Screen) i) (from Screens) n ≡ wordsOf (fresh i n)
   unfolding wordsOf size bookLong
   opened-words ws e =
-      ap (λ (l : List ℕ). set (set l (from Screen) i) (from Screens) n) (ap blank e ∙ sym (flat-zeros order))
+      ap (λ (l : List ℕ). set (set l (from Screen) i) (from Screens) n) (ap blankWords e ∙ sym (flat-zeros order))
       ∙ ap (λ (l : List ℕ). set l (from Screens) n) (store-lay noWords laid-zeros Screen i refl)
       ∙ store-lay (putIn noWords Screen (i ∷ [])) (laid-put noWords laid-zeros Screen (i ∷ []) refl) Screens n refl
       ∙ (λ j. lay (λ m. fresh-piece m j))

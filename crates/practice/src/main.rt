@@ -5,13 +5,13 @@ mod play;
 use libc::STDOUT_FILENO;
 use play::play;
 use vectors::compare::Outcome;
-use vectors::file::Entry;
 use vectors::file::FILE_ROOM;
+use vectors::file::NextVector;
 use vectors::file::Part;
 use vectors::file::entry_at;
 ghost use mathlib.Core.Path.{_≡_};
 ghost use lib.ListN.{length};
-ghost use Rattle.vectors.specs.File.{Within, fileRoom};
+ghost use Rattle.vectors.specs.File.{Inside, fileRoom};
 
 // A vector's line; whether it agrees.
 fn print_line(name: &[u8], outcome: Outcome) -> bool {
@@ -43,9 +43,9 @@ fn print_cut() {
 
 // Runs one vector and writes its line; whether it agrees.
 fn try_vector(file: &[u8], name: Part, input: Part, output: Part) -> bool
-    requires { ⌜ Within name (now file) ⌝ }
-    requires { ⌜ Within input (now file) ⌝ }
-    requires { ⌜ Within output (now file) ⌝ }
+    requires { ⌜ Inside name (now file) ⌝ }
+    requires { ⌜ Inside input (now file) ⌝ }
+    requires { ⌜ Inside output (now file) ⌝ }
 {
     let input_start = input.start;
     let input_end = input.end;
@@ -68,7 +68,7 @@ fn try_all(file: &[u8]) {
     while at < file.len() {
         let entry = entry_at(file, at);
         match entry {
-            Entry::Vector {
+            NextVector::Vector {
                 name,
                 input,
                 output,
@@ -79,11 +79,11 @@ fn try_all(file: &[u8]) {
                 total += 1;
                 at = output.end;
             }
-            Entry::End => {
+            NextVector::End => {
                 print_total(agreed, total);
                 return;
             }
-            Entry::Cut => {
+            NextVector::Cut => {
                 print_cut();
                 return;
             }

@@ -21,7 +21,7 @@ use Rattle.meaning.specs.Reply.{Reply, refusal, isTaken, isGossiped}
 use Rattle.meaning.specs.Step.{Outcome, stopOr, openStops, ask, send}
 use Rattle.lent.specs.SoundWords.{lawful-held}
 use Rattle.lent.specs.Words.{bookLong, bookOf, wordsOf, lawful}
-use Rattle.meaning.specs.Request.{Request, stops, done, step-by}
+use Rattle.meaning.specs.Request.{Request, stops, outcome, step-by}
 use Rattle.promise.specs.Lent.{Entry, ofTap, ofGossip, reads, requestIn, onBook, entryOn, entryStop}
 use Rattle.promise.specs.Lent.{Lent, heard, stopOn, tapStop, tapOn, promptIn, labelIn, questionOn, gossipStop}
 use Rattle.promise.specs.Lent.{gossipOn, sendOn, openOr, openOn}
@@ -71,7 +71,7 @@ module _ (e : Entry) (ws bytes : List ℕ) where
 
   by-stops :
       entryOn e ws bytes
-      ≡ comes ws (done (bookOf ws) asks) (lawful ws) (reads e (bookOf ws) bytes) (firstOf (stops (bookOf ws) asks))
+      ≡ comes ws (outcome (bookOf ws) asks) (lawful ws) (reads e (bookOf ws) bytes) (firstOf (stops (bookOf ws) asks))
   by-stops =
       ap (λ (o : Outcome). onBook ws (heard (reads e (bookOf ws) bytes) (bookOf ws) o)) (step-by (bookOf ws) asks)
 
@@ -79,14 +79,14 @@ module _ (e : Entry) (ws bytes : List ℕ) where
   entry-stopped : (r : Reply) → entryStop e ws bytes ≡ some r → entryOn e ws bytes ≡ record { reply = r; words = ws }
   entry-stopped r s =
       by-stops
-      ∙ stopped ws (done (bookOf ws) asks) (lawful ws) refl (reads e (bookOf ws) bytes)
+      ∙ stopped ws (outcome (bookOf ws) asks) (lawful ws) refl (reads e (bookOf ws) bytes)
       (firstOf (stops (bookOf ws) asks)) r s
 
   -- where nothing stops it, it is done
-  entry-clear : entryStop e ws bytes ≡ none → entryOn e ws bytes ≡ lentOf (done (bookOf ws) asks)
+  entry-clear : entryStop e ws bytes ≡ none → entryOn e ws bytes ≡ lentOf (outcome (bookOf ws) asks)
   entry-clear s =
       by-stops
-      ∙ clear ws (done (bookOf ws) asks) (lawful ws) (reads e (bookOf ws) bytes) (firstOf (stops (bookOf ws) asks)) s
+      ∙ clear ws (outcome (bookOf ws) asks) (lawful ws) (reads e (bookOf ws) bytes) (firstOf (stops (bookOf ws) asks)) s
 
 -- Tap
 module _ (ws bytes : List ℕ) where

@@ -1,5 +1,5 @@
 // The prompts in their region of a book: for each the showing, accepts and declines.
-use limits::PROMPTS;
+use limits::PROMPT_COUNT;
 use tally::Standing;
 use tally::noted;
 use tally::unpack;
@@ -17,7 +17,7 @@ ghost use Rattle.prompts.specs.Region.{standingLong, promptWords, standi
 // How many words a standing takes, and all of them.
 const STANDING_LONG: usize = 3;
 
-pub const PROMPT_WORDS: usize = PROMPTS as usize * STANDING_LONG;
+pub const PROMPT_WORDS: usize = PROMPT_COUNT as usize * STANDING_LONG;
 
 // Where a prompt's standing begins.
 fn place_of(p: u64) -> usize

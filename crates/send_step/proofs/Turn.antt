@@ -18,7 +18,7 @@ use Rattle.tally.specs.declared.Tap.{Tap}
 use Rattle.ledger.specs.Message.{messageFits}
 use Rattle.ledger.specs.Record.{Record}
 use Rattle.log.specs.Region.{rowLong, recordAt, bodyPlace}
-use Rattle.wire.specs.Kinds.{Kind, size, headKind, recordKind, headLong, recordLong}
+use Rattle.wire.specs.Kinds.{Kind, sizeOf, headKind, recordKind, headLong, recordLong}
 use Rattle.wire.specs.Returns.{meets}
 use Rattle.wire.specs.Said.{figures}
 use Rattle.wire.specs.Write.{Meets, writable, written, writeAs}
@@ -36,13 +36,13 @@ use Rattle.lent.specs.Words.{bookOf, lawful}
 use Rattle.lent.specs.Rows.{noRecord}
 use Rattle.promise.specs.Lent.{putFront}
 use Rattle.send_step.specs.Long.{record-long, whole-message, next-record, no-record}
-use Rattle.send_step.specs.Parts.{startOf, recordBytes, withHead, withRecords}
+use Rattle.send_step.specs.Parts.{startAt, recordBytes, withHead, withRecords}
 
 -- a line that a writer takes, where there is room for it
-wrote-line : (k : Kind) (line out : List ℕ) (a : Written) (bytes : List ℕ) → T (writable k line) → size k ≤ length out
-    → Meets (writeAs k line out) a bytes → bytes ≡ written k line ++ drop (size k) out
+wrote-line : (k : Kind) (line out : List ℕ) (a : Written) (bytes : List ℕ) → T (writable k line) → sizeOf k ≤ length out
+    → Meets (writeAs k line out) a bytes → bytes ≡ written k line ++ drop (sizeOf k) out
 unfolding writeAs
-wrote-line k line out a bytes w h m = m .leaves ∙ rw (is-true (writable k line) w, le-ltb (length out) (size k) h)
+wrote-line k line out a bytes w h m = m .leaves ∙ rw (is-true (writable k line) w, le-ltb (length out) (sizeOf k) h)
 
 -- a row's line, and what is left where its part has just the room
 module _ (row : List ℕ) (n : ℕ) (m label : Parts) (tap : Tap) (long : length row ≡ rowLong) (e : label ≡ partsAt 2 row)
@@ -74,9 +74,9 @@ module _ (ws : List ℕ) (h : T (lawful ws)) where
   sent-fits : T (messageFits bodyFits (send (bookOf ws)))
   sent-fits = send-fits (bookOf ws) (lawful-sound ws h)
 
-  pub sent-long : (n : ℕ) → n ≡ length ((bookOf ws) .log) → length (messageBytes (send (bookOf ws))) ≡ startOf n
+  pub sent-long : (n : ℕ) → n ≡ length ((bookOf ws) .log) → length (messageBytes (send (bookOf ws))) ≡ startAt n
   unfolding send
-  sent-long n e = length-bytes-of (send (bookOf ws)) sent-fits ∙ ap (λ (k : ℕ). startOf k) (sym e)
+  sent-long n e = length-bytes-of (send (bookOf ws)) sent-fits ∙ ap (λ (k : ℕ). startAt k) (sym e)
 
   module _ (m : Parts) (e : listOf m ≡ known (bookOf ws)) where
     module _ (i n c : ℕ) (p : i ≡ (bookOf ws) .me) (q : n ≡ (bookOf ws) .screens) (r : c ≡ length ((bookOf ws) .log))
@@ -110,41 +110,41 @@ module _ (ws : List ℕ) (h : T (lawful ws)) where
 
   -- the pass over the log: one record more, and past the last
   abbrev ahead : ℕ → List ℕ → List ℕ
-  ahead i out = withRecords (send (bookOf ws)) (drop i ((bookOf ws) .log)) (startOf i)
-      (startOf (length ((bookOf ws) .log))) out
+  ahead i out = withRecords (send (bookOf ws)) (drop i ((bookOf ws) .log)) (startAt i)
+      (startAt (length ((bookOf ws) .log))) out
 
   pub sent-next :
-      (i : ℕ) (out left : List ℕ) → i < length ((bookOf ws) .log) → startOf (length ((bookOf ws) .log)) ≤ length out
-      → left ≡ patch (startOf i) recordLong out (recordBytes (send (bookOf ws)) (getD ((bookOf ws) .log) i noRecord))
+      (i : ℕ) (out left : List ℕ) → i < length ((bookOf ws) .log) → startAt (length ((bookOf ws) .log)) ≤ length out
+      → left ≡ patch (startAt i) recordLong out (recordBytes (send (bookOf ws)) (getD ((bookOf ws) .log) i noRecord))
       → ahead i out ≡ ahead (i + 1) left
   unfolding send
   sent-next i out left l room e =
       let log = (bookOf ws) .log in
-      let end : startOf i + recordLong ≤ startOf (length log) = omega arith in
-      let next : startOf i + recordLong ≡ startOf (i + 1) = omega arith in
-      next-record (send (bookOf ws)) log out i (startOf i) (startOf (length log)) noRecord l
+      let end : startAt i + recordLong ≤ startAt (length log) = omega arith in
+      let next : startAt i + recordLong ≡ startAt (i + 1) = omega arith in
+      next-record (send (bookOf ws)) log out i (startAt i) (startAt (length log)) noRecord l
       (record-long (send (bookOf ws)) sent-fits (getD log i noRecord) (getD-in log i noRecord l)) end room
-      ∙ ap₂ (λ (at : ℕ) (o : List ℕ). withRecords (send (bookOf ws)) (drop (i + 1) log) at (startOf (length log)) o)
+      ∙ ap₂ (λ (at : ℕ) (o : List ℕ). withRecords (send (bookOf ws)) (drop (i + 1) log) at (startAt (length log)) o)
       next (sym e)
 
   pub sent-last : (i : ℕ) (out : List ℕ) → i ≤ length ((bookOf ws) .log) → length ((bookOf ws) .log) ≤ i
       → ahead i out ≡ out
   sent-last i out l all =
       let log = (bookOf ws) .log in
-      let at : startOf i ≡ startOf (length log) = omega arith in
-      ap (λ (k : ℕ). withRecords (send (bookOf ws)) (drop i log) k (startOf (length log)) out) at
-      ∙ no-record (send (bookOf ws)) log out i (startOf (length log)) all
+      let at : startAt i ≡ startAt (length log) = omega arith in
+      ap (λ (k : ℕ). withRecords (send (bookOf ws)) (drop i log) k (startAt (length log)) out) at
+      ∙ no-record (send (bookOf ws)) log out i (startAt (length log)) all
 
   -- the head and then the records
   pub sent-whole :
       (out headed left : List ℕ) → headed ≡ withHead (send (bookOf ws)) out
-      → left ≡ withRecords (send (bookOf ws)) ((bookOf ws) .log) headLong (startOf (length ((bookOf ws) .log)))
+      → left ≡ withRecords (send (bookOf ws)) ((bookOf ws) .log) headLong (startAt (length ((bookOf ws) .log)))
       headed
       → left ≡ messageBytes (send (bookOf ws)) ++ drop (length (messageBytes (send (bookOf ws)))) out
   unfolding send
   sent-whole out headed left e f =
       f
-      ∙ ap (withRecords (send (bookOf ws)) ((bookOf ws) .log) headLong (startOf (length ((bookOf ws) .log)))) e
+      ∙ ap (withRecords (send (bookOf ws)) ((bookOf ws) .log) headLong (startAt (length ((bookOf ws) .log)))) e
       ∙ whole-message (send (bookOf ws)) sent-fits out
 
 -- a message at the front of an output, by the test of the room

@@ -22,7 +22,7 @@ use Rattle.wire.specs.Laws.{length-written}
 use Rattle.wire.specs.Write.{written}
 use Rattle.message.specs.Message.{headOf, lineFor, messageBytes}
 use Rattle.message.specs.MessageLaws.{head-long, records-writable, length-bytes-of}
-use Rattle.send_step.specs.Parts.{recordBytes, startOf, withHead, withRecords}
+use Rattle.send_step.specs.Parts.{recordBytes, startAt, withHead, withRecords}
 
 module _ (m : Message) (h : T (messageFits bodyFits m)) where
   pub record-long : (r : Record) → r ∈ m .records → length (recordBytes m r) ≡ recordLong
@@ -30,7 +30,7 @@ module _ (m : Message) (h : T (messageFits bodyFits m)) where
   record-long r i = length-written (recordKind (m .screens) (m .stamp)) (lineFor r) (records-writable m h r i)
 
   pub whole-message : (out : List ℕ)
-      → withRecords m (m .records) headLong (startOf (length (m .records))) (withHead m out)
+      → withRecords m (m .records) headLong (startAt (length (m .records))) (withHead m out)
       ≡ messageBytes m ++ drop (length (messageBytes m)) out
   unfolding withRecords withHead messageBytes recordBytes
   whole-message out =

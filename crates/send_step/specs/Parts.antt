@@ -14,8 +14,8 @@ unfoldable pub recordBytes : Message → Record → List ℕ
 recordBytes m r = written (recordKind (m .screens) (m .stamp)) (lineFor r)
 
 -- where the i-th record starts, and where a message of i records ends
-abbrev pub startOf : ℕ → ℕ
-startOf i = headLong + i * recordLong
+abbrev pub startAt : ℕ → ℕ
+startAt i = headLong + i * recordLong
 
 -- the head at the front of an output
 unfoldable pub withHead : Message → List ℕ → List ℕ

@@ -32,7 +32,7 @@ ghost use Rattle.meaning.specs.Step.{send};
 ghost use Rattle.lent.specs.Words.{bookOf, lawful};
 ghost use Rattle.lent.specs.Rows.{noRecord};
 ghost use Rattle.promise.specs.Lent.{putFront};
-ghost use Rattle.send_step.specs.Parts.{startOf, recordBytes, withHead, withRecords};
+ghost use Rattle.send_step.specs.Parts.{startAt, recordBytes, withHead, withRecords};
 
 // The known stamp.
 fn stamp_of(b: &[u64]) -> Parts
@@ -79,9 +79,9 @@ fn put_row_at(row: &[u64], n: usize, m: Parts, out: &mut [u8], a: usize, e: usiz
 fn put_record(b: &[u64], i: usize, m: Parts, out: &mut [u8])
     requires { ⌜ T (lawful (now b)) ⌝ }
     requires { ⌜ listOf m ≡ known (bookOf (now b)) ⌝ }
-    requires { ⌜ (i < length ((bookOf (now b)) .log)) × (startOf (i + 1) ≤ length (now out)) ⌝ }
+    requires { ⌜ (i < length ((bookOf (now b)) .log)) × (startAt (i + 1) ≤ length (now out)) ⌝ }
     ensures { λ _. ⌜ now (out .exit)
-        ≡ patch (startOf i) recordLong (now (out .entry))
+        ≡ patch (startAt i) recordLong (now (out .entry))
         (recordBytes (send (bookOf (now (b .entry)))) (getD ((bookOf (now (b .entry))) .log) i noRecord)) ⌝ }
 {
     let row = log_row(b, i);
@@ -93,10 +93,10 @@ fn put_record(b: &[u64], i: usize, m: Parts, out: &mut [u8])
 fn put_records(b: &[u64], m: Parts, out: &mut [u8])
     requires { ⌜ T (lawful (now b)) ⌝ }
     requires { ⌜ listOf m ≡ known (bookOf (now b)) ⌝ }
-    requires { ⌜ startOf (length ((bookOf (now b)) .log)) ≤ length (now out) ⌝ }
+    requires { ⌜ startAt (length ((bookOf (now b)) .log)) ≤ length (now out) ⌝ }
     ensures { λ _. ⌜ now (out .exit)
         ≡ withRecords (send (bookOf (now (b .entry)))) ((bookOf (now (b .entry))) .log) headLong
-        (startOf (length ((bookOf (now (b .entry))) .log))) (now (out .entry)) ⌝ }
+        (startAt (length ((bookOf (now (b .entry))) .log))) (now (out .entry)) ⌝ }
 {
     let n = logged_of(b);
     let mut i = 0;

@@ -30,7 +30,7 @@ use Rattle.lent.specs.Shape.{Shape, value-fits, prompts-fit}
 use Rattle.lent.specs.With.{withValue, withLog, withCounted, withPrompts}
 use Rattle.lent.specs.Words.{bookOf, wordsOf}
 use Rattle.settle.specs.Moves.{countTaps, added, isNewlyApplied, applyOne, applyAll, shed, settled}
-use Rattle.settle.specs.Ready.{Countable, Applicable, Ready, appliedFrom, from-me, from-shape, from-log}
+use Rattle.settle.specs.Ready.{Countable, Applicable, Appliable, appliedFrom, from-me, from-shape, from-log}
 use Rattle.settle.specs.Ready.{from-none, from-all, from-next, newly-next, from-applicable}
 
 -- counting one tap
@@ -123,7 +123,7 @@ module _ (before now : Stamp) (r : Record) (b : Book) where
   newly e f = (rw (e, f), rw (e, f))
 
 -- the log from its end to its start
-module _ (before now : Stamp) (ws : List ℕ) (h : Held ws) (y : Ready before now (bookOf ws)) where
+module _ (before now : Stamp) (ws : List ℕ) (h : Held ws) (y : Appliable before now (bookOf ws)) where
   none-newly : length (newlyApplied before now []) ≡ 0
   unfolding newlyApplied
   none-newly = refl
@@ -182,7 +182,7 @@ module _ (before now : Stamp) (ws : List ℕ) (h : Held ws) (y : Ready before no
 
 -- the whole log applied, then closed up
 module _
-    (before : Stamp) (ws : List ℕ) (y : Ready before (ready (bookOf ws)) (bookOf ws)) (vs : List ℕ)
+    (before : Stamp) (ws : List ℕ) (y : Appliable before (ready (bookOf ws)) (bookOf ws)) (vs : List ℕ)
     (e : vs ≡ wordsOf (applyAll before (ready (bookOf ws)) ((bookOf ws) .log) (bookOf ws))) where
   abbrev now : Stamp
   now = ready (bookOf ws)

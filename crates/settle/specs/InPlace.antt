@@ -21,7 +21,7 @@ use Rattle.meaning.specs.Step.{settle, nowReady, nowApplied, tapsOf}
 use Rattle.lent.specs.SoundWords.{whole-each, sound-shape}
 use Rattle.lent.specs.With.{withTable, withLog}
 use Rattle.lent.specs.Shape.{Shape, table-fits, log-fits}
-use Rattle.settle.specs.Ready.{Ready}
+use Rattle.settle.specs.Ready.{Appliable}
 
 module _ (b : Book) (rows : List Stamp) (new : List Record) (s : Sound b) (y : meaning.Ready b rows new) where
   -- new records are at no place of the log: they are not known, and its records are
@@ -50,7 +50,7 @@ module _ (b : Book) (rows : List Stamp) (new : List Record) (s : Sound b) (y : m
       omega (arith, ap length (counted-after b rows new s y), few)
 
   pub in-place-ready :
-      Ready (ready b) (ready (withLog (gathered new (b .log)) (withTable rows b)))
+      Appliable (ready b) (ready (withLog (gathered new (b .log)) (withTable rows b)))
       (withLog (gathered new (b .log)) (withTable rows b))
   unfolding ready known row nowReady nowApplied
   in-place-ready =

@@ -53,7 +53,7 @@ pub record Applicable (before now : Stamp) (r : Record) (b : Book) : Type 0 wher
   pub countable : T (isNewlyApplied before now r) → Countable (r .body) b
 
 -- every newly applied record of the log can be applied
-pub record Ready (before now : Stamp) (b : Book) : Type 0 where
+pub record Appliable (before now : Stamp) (b : Book) : Type 0 where
   pub shape : Shape b
   pub order : T (rising fields (b .counted))
   pub few : (s : Standing) → s ∈ b .prompts → s .accepts + s .declines + logRoom < countLimit
@@ -138,7 +138,7 @@ newly-few : (before now : Stamp) (rs : List Record) → length (newlyApplied bef
 unfolding newlyApplied
 newly-few before now rs = keep-le (λ r. isApplied now r && not (isApplied before r)) rs
 
-module _ (before now : Stamp) (b : Book) (y : Ready before now b) where
+module _ (before now : Stamp) (b : Book) (y : Appliable before now b) where
   rules : (r : Record) → r ∈ b .log → Obeys bodyFits (b .screens) r
   rules r m = obeys bodyFits (b .screens) r (y .obey r m)
 

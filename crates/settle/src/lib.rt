@@ -31,7 +31,7 @@ ghost use Rattle.lent.specs.Held.{Held};
 ghost use Rattle.lent.specs.Rows.{noRecord};
 ghost use Rattle.lent.specs.Words.{bookOf, wordsOf};
 ghost use Rattle.settle.specs.Moves.{countTaps, added, isNewlyApplied, applyOne, applyAll, settled};
-ghost use Rattle.settle.specs.Ready.{Countable, Applicable, Ready};
+ghost use Rattle.settle.specs.Ready.{Countable, Applicable, Appliable};
 
 // Counts the tap of w, unless it is counted.
 fn count_tap(b: &mut [u64], w: u64)
@@ -101,7 +101,7 @@ fn one_if(b: bool) -> u64
 fn apply_log(b: &mut [u64], before: &[u64], s: &[u64]) -> u64
     requires { ⌜ Held (now b) ⌝ }
     requires { ⌜ (length (now before) ≡ stampLong) × (length (now s) ≡ stampLong) ⌝ }
-    requires { ⌜ Ready (now before) (now s) (bookOf (now b)) ⌝ }
+    requires { ⌜ Appliable (now before) (now s) (bookOf (now b)) ⌝ }
     ensures { λ _. ⌜ now (b .exit)
         ≡ wordsOf (applyAll (now (before .entry)) (now (s .entry)) ((bookOf (now (b .entry))) .log)
         (bookOf (now (b .entry)))) ⌝ }
@@ -122,7 +122,7 @@ pub fn settle_book(b: &mut [u64], before: &[u64]) -> u64
     requires { ⌜ Held (now b) ⌝ }
     requires { ⌜ (bookOf (now b)) .me < (bookOf (now b)) .screens ⌝ }
     requires { ⌜ length (now before) ≡ stampLong ⌝ }
-    requires { ⌜ Ready (now before) (ready (bookOf (now b))) (bookOf (now b)) ⌝ }
+    requires { ⌜ Appliable (now before) (ready (bookOf (now b))) (bookOf (now b)) ⌝ }
     ensures { λ _. ⌜ now (b .exit) ≡ wordsOf (settled (now (before .entry)) (bookOf (now (b .entry)))) ⌝ }
     ensures { λ r. ⌜ r
         ≡ length (newlyApplied (now (before .entry)) (ready (bookOf (now (b .entry))))

@@ -31,7 +31,7 @@ use Rattle.log.specs.RowSound.{rowSound, rowsSound-is, recordFits-is}
 use Rattle.meaning.specs.Book.{Book, known, ready, row, waiting, clauses, sound}
 use Rattle.meaning.specs.ReadyKnown.{ready-known}
 use Rattle.lent.specs.Lay.{at-place}
-use Rattle.lent.specs.Words.{Name, pieceOf, place, bookLong, shapeRules, Screen, Screens, Logged, Taps, Table, Value}
+use Rattle.lent.specs.Words.{Name, pieceOf, rank, bookLong, shapeRules, Screen, Screens, Logged, Taps, Table, Value}
 use Rattle.lent.specs.Words.{Log, Counted, Prompts, piece, numberIn, bookOf, inShape, lawful}
 use Rattle.lent.specs.WordsLaws.{log-few}
 use Rattle.soundness.specs.Clauses.{fitRules, withinRules, logRules, countedRules, regionRules, pieceRules}
@@ -215,7 +215,7 @@ module _ (ws : List ℕ) where
 module _ (ws : List ℕ) where
   pub shape-off : (n : Name) → pieceOf n .rule (λ m. piece m ws) ≡ false → inShape ws ≡ false
   unfolding inShape
-  shape-off n e = all-off (shapeRules ws) (suc (place n)) (at-place (λ k. pieceOf k .rule (λ m. piece m ws)) true n ∙ e)
+  shape-off n e = all-off (shapeRules ws) (suc (rank n)) (at-place (λ k. pieceOf k .rule (λ m. piece m ws)) true n ∙ e)
 
   pub shape-short : (length ws ≡ bookLong → ⊥) → inShape ws ≡ false
   unfolding inShape

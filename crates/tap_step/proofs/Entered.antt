@@ -21,7 +21,7 @@ use Rattle.lent.specs.With.{withTable, withLog}
 use Rattle.lent.specs.Words.{bookOf, wordsOf}
 use Rattle.settle.specs.Moves.{settled}
 use Rattle.settle.specs.MovesLaws.{settle-is}
-use Rattle.settle.specs.Ready.{Ready}
+use Rattle.settle.specs.Ready.{Appliable}
 use Rattle.settle.specs.InPlace.{new-fresh, rows-shape, log-shape, in-place-ready}
 
 module _
@@ -84,7 +84,7 @@ module _
         pub put-me : (bookOf us) .me < (bookOf us) .screens
         put-me = subst (λ (z : Book). z .me < z .screens) (sym put-book) (me-in b (d .sound-before))
 
-        pub put-ready : (before : Stamp) → before ≡ ready b → Ready before (ready (bookOf us)) (bookOf us)
+        pub put-ready : (before : Stamp) → before ≡ ready b → Appliable before (ready (bookOf us)) (bookOf us)
         put-ready before k = rw (k, put-book) (in-place-ready b (ownRows b) new (d .sound-before) (take-ready b x l d))
 
         pub put-settled :

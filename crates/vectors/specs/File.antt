@@ -10,16 +10,16 @@ use Rattle.numbers.specs.Number.{numberOf}
 use Rattle.vectors.specs.declared.file.Part.{Part}
 use Rattle.vectors.specs.declared.file.Field.{Field}
 use Rattle.vectors.specs.declared.file.Field.the-variants.{Stands, Broken}
-use Rattle.vectors.specs.declared.file.Entry.{Entry}
-use Rattle.vectors.specs.declared.file.Entry.the-variants.{Vector, End, Cut}
+use Rattle.vectors.specs.declared.file.NextVector.{NextVector}
+use Rattle.vectors.specs.declared.file.NextVector.the-variants.{Vector, End, Cut}
 
 -- room for the whole file
 abbrev pub fileRoom : ℕ
 fileRoom = 900_001
 
 -- a part lies within the file
-abbrev pub Within : Part → List ℕ → Type 0
-Within p file = (p .start ≤ p .end) × (p .end ≤ length file)
+abbrev pub Inside : Part → List ℕ → Type 0
+Inside p file = (p .start ≤ p .end) × (p .end ≤ length file)
 
 abbrev pub longestField : ℕ
 longestField = 60_000
@@ -36,11 +36,11 @@ fieldAt at width file =
     (fieldOf (at + width) (numberOf (mid at width file)) (length file - (at + width)))
 
 -- what a field leads to
-abbrev pub onField : Field → Entry → (Part → Entry) → Entry
+abbrev pub onField : Field → NextVector → (Part → NextVector) → NextVector
 onField (Stands p) broken next = next p
 onField Broken broken next = broken
 
-unfoldable pub entryAt : ℕ → List ℕ → Entry
+unfoldable pub entryAt : ℕ → List ℕ → NextVector
 entryAt at file =
     onField (fieldAt at 1 file) Cut (λ name.
     cond (eqb (name .start) (name .end)) End

@@ -11,12 +11,12 @@ use lib.Dec.{eqb, ltb}
 use lib.ListN.{length}
 use Rattle.lists.specs.Part.{mid}
 use Rattle.numbers.specs.Number.{numberOf}
-use Rattle.vectors.specs.File.{Within, longestField, fieldAt, onField, entryAt}
+use Rattle.vectors.specs.File.{Inside, longestField, fieldAt, onField, entryAt}
 use Rattle.vectors.specs.declared.file.Part.{Part}
 use Rattle.vectors.specs.declared.file.Field.{Field}
 use Rattle.vectors.specs.declared.file.Field.the-variants.{Stands, Broken}
-use Rattle.vectors.specs.declared.file.Entry.{Entry}
-use Rattle.vectors.specs.declared.file.Entry.the-variants.{Vector, End, Cut}
+use Rattle.vectors.specs.declared.file.NextVector.{NextVector}
+use Rattle.vectors.specs.declared.file.NextVector.the-variants.{Vector, End, Cut}
 
 -- what a field comes to, test by test
 module _ (at width : ℕ) (file : List ℕ) where
@@ -43,7 +43,7 @@ module _ (at width : ℕ) (file : List ℕ) where
         rw (le-ltb (length file - at) width h, ← e, le-ltb longestField long l, ends)
 
   pub field-within : at ≤ length file → (p : Part) → fieldAt at width file ≡ Stands p
-      → (at + width ≤ p .start) × Within p file
+      → (at + width ≤ p .start) × Inside p file
   unfolding fieldAt
   field-within h p =
       go (ltb (length file - at) width) refl (ltb longestField long) (ltb (length file - (at + width)) long) refl
@@ -54,7 +54,7 @@ module _ (at width : ℕ) (file : List ℕ) where
       go : (a : Bool) → ltb (length file - at) width ≡ a → (b c : Bool) → ltb (length file - (at + width)) long ≡ c
           → cond a Broken
           (cond b Broken (cond c Broken (Stands (record { start = at + width; end = at + width + long })))) ≡ Stands p
-          → (at + width ≤ p .start) × Within p file
+          → (at + width ≤ p .start) × Inside p file
       go true d b c e q = let z : _≡_ {A = ℕ} 0 1 = cc in absurd (omega arith)
       go false d true c e q = let z : _≡_ {A = ℕ} 0 1 = cc in absurd (omega arith)
       go false d false true e q = let z : _≡_ {A = ℕ} 0 1 = cc in absurd (omega arith)
@@ -93,17 +93,17 @@ module _ (at : ℕ) (file : List ℕ) where
 
 -- a vector's three fields, one behind the other
 pub record Lies (at : ℕ) (file : List ℕ) (name input output : Part) : Type 0 where
-  pub named : Within name file
-  pub asked : Within input file
-  pub answered : Within output file
+  pub named : Inside name file
+  pub asked : Inside input file
+  pub answered : Inside output file
   pub behind : at < output .end
 
-on-field : (f : Field) (next : Part → Entry) (n i o : Part) → onField f Cut next ≡ Vector n i o
+on-field : (f : Field) (next : Part → NextVector) (n i o : Part) → onField f Cut next ≡ Vector n i o
     → (p : Part) × (f ≡ Stands p) × (next p ≡ Vector n i o)
 on-field (Stands p) next n i o q = (p, refl, q)
 on-field Broken next n i o q = let z : _≡_ {A = ℕ} 0 1 = cc in absurd (omega arith)
 
-not-end : (c : Bool) (e : Entry) (n i o : Part) → cond c End e ≡ Vector n i o → e ≡ Vector n i o
+not-end : (c : Bool) (e : NextVector) (n i o : Part) → cond c End e ≡ Vector n i o → e ≡ Vector n i o
 not-end true e n i o q = let z : _≡_ {A = ℕ} 0 1 = cc in absurd (omega arith)
 not-end false e n i o q = q
 
@@ -122,8 +122,8 @@ entry-within at file n i o h q =
     let same-i : b .0 ≡ i = cc in
     let same-o : c .0 ≡ o = cc in
     record {
-      named = subst (λ (p : Part). Within p file) same-n (f .1);
-      asked = subst (λ (p : Part). Within p file) same-i (g .1);
-      answered = subst (λ (p : Part). Within p file) same-o (k .1);
+      named = subst (λ (p : Part). Inside p file) same-n (f .1);
+      asked = subst (λ (p : Part). Inside p file) same-i (g .1);
+      answered = subst (λ (p : Part). Inside p file) same-o (k .1);
       behind = subst (λ (p : Part). at < p .end) same-o (omega arith);
     }

@@ -18,7 +18,7 @@ enum Field {
 }
 
 // A vector's fields; or the byte 0 that ends the file; or that there is neither.
-pub enum Entry {
+pub enum NextVector {
     Vector {
         name: Part,
         input: Part,
@@ -60,26 +60,26 @@ fn field_at(file: &[u8], at: usize, width: usize) -> Field
 }
 
 // The vector, or the end, that stands at a place.
-pub fn entry_at(file: &[u8], at: usize) -> Entry
+pub fn entry_at(file: &[u8], at: usize) -> NextVector
     requires { ⌜ at ≤ length (now file) ⌝ }
     ensures { λ r. ⌜ r ≡ entryAt at (now (file .entry)) ⌝ }
 {
     let first = field_at(file, at, NAME_WIDTH);
     let Field::Stands(name) = first else {
-        return Entry::Cut;
+        return NextVector::Cut;
     };
     if name.start == name.end {
-        return Entry::End;
+        return NextVector::End;
     }
     let second = field_at(file, name.end, BYTES_WIDTH);
     let Field::Stands(input) = second else {
-        return Entry::Cut;
+        return NextVector::Cut;
     };
     let third = field_at(file, input.end, BYTES_WIDTH);
     let Field::Stands(output) = third else {
-        return Entry::Cut;
+        return NextVector::Cut;
     };
-    Entry::Vector {
+    NextVector::Vector {
         name,
         input,
         output,

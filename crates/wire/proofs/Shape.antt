@@ -9,23 +9,23 @@ use lib.Dec.{eqb, eqb→eq}
 use lib.ListN.{length, getD}
 use Rattle.lists.specs.TestLaws.{same-test}
 use Rattle.lists.specs.ElementLaws.{eq→eqb}
-use Rattle.wire.specs.Kinds.{bodyOf, isLong, shaped}
-use Rattle.wire.specs.declared.Body.{Body}
-use Rattle.wire.specs.declared.Body.the-variants.{Long, Bad}
+use Rattle.wire.specs.Kinds.{bodyBy, isLong, shaped}
+use Rattle.wire.specs.declared.BodyLength.{BodyLength}
+use Rattle.wire.specs.declared.BodyLength.the-variants.{Long, Bad}
 
 and-false : (a b : Bool) → b ≡ false → false ≡ (a && b)
 and-false true b e = sym e
 and-false false b e = refl
 
 module _ (k : ℕ) (bytes : List ℕ) where
-  pub not-long : isLong (bodyOf k) (length bytes) ≡ false → false ≡ shaped k bytes
+  pub not-long : isLong (bodyBy k) (length bytes) ≡ false → false ≡ shaped k bytes
   unfolding shaped
-  not-long e = and-false (eqb (getD bytes 0 0) k) (isLong (bodyOf k) (length bytes)) e
+  not-long e = and-false (eqb (getD bytes 0 0) k) (isLong (bodyBy k) (length bytes)) e
 
   pub empty : length bytes ≡ 0 → false ≡ shaped k bytes
-  empty e = not-long (rw e (zero-long (bodyOf k)))
+  empty e = not-long (rw e (zero-long (bodyBy k)))
     where
-      zero-long : (b : Body) → isLong b 0 ≡ false
+      zero-long : (b : BodyLength) → isLong b 0 ≡ false
       zero-long (Long n) = ne-eqb 0 (1 + n) (λ h. omega arith)
       zero-long (Bad r) = refl
 
@@ -33,7 +33,7 @@ module _ (k : ℕ) (bytes : List ℕ) where
   unfolding shaped
   another h = rw (ne-eqb (getD bytes 0 0) k h)
 
-  pub settled : (n : ℕ) → 0 < length bytes → getD bytes 0 0 ≡ k → bodyOf k ≡ Long n
+  pub settled : (n : ℕ) → 0 < length bytes → getD bytes 0 0 ≡ k → bodyBy k ≡ Long n
       → eqb (length bytes - 1) n ≡ shaped k bytes
   unfolding shaped
   settled n h e b =

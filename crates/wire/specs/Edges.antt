@@ -11,13 +11,13 @@ use Rattle.limits.specs.Limits.{parts, word, frontEnds, serials, promptCount, s
 use Rattle.limits.specs.Limits.{logRoom}
 use Rattle.stamp.specs.Parts.{partsAt, listOf}
 use Rattle.stamp.specs.Stamp.{Stamp, replace, stampFits}
-use Rattle.tally.specs.Body.{bodyOf as saidOf, bodyFits}
+use Rattle.tally.specs.Body.{bodyFits, bodyOf}
 use Rattle.tally.specs.Tap.{tapFits}
 use Rattle.ledger.specs.Message.{inRange}
 use Rattle.ledger.specs.Record.{recordFits, isKnown, knows}
 use Rattle.numbers.specs.Number.{numberFrom, bytesOf}
 use Rattle.wire.specs.declared.Written.the-variants.{Wrote, Refused}
-use Rattle.wire.specs.Kinds.{partWidth, bitsWidth, Kind, bodyOf, shaped, inTable, headKind, recordKind, tapKind}
+use Rattle.wire.specs.Kinds.{partWidth, bitsWidth, Kind, bodyBy, shaped, inTable, headKind, recordKind, tapKind}
 use Rattle.wire.specs.Kinds.{questionKind, takenKind, alreadyKind, verdictKind, waitKind, refusalKind}
 use Rattle.wire.specs.Kinds.{gossipTakenKind, openKind}
 use Rattle.wire.specs.Read.{lineOf, readable}
@@ -147,8 +147,8 @@ writers =
 -- the definitions give each line
 pub edges : (agrees replies ≡ true) × (agrees requests ≡ true) × (agrees messages ≡ true) × (agrees writers ≡ true)
 unfolding reads takes outcome firsts zeros stampLong only tapped recorded headed m replies requests messages writers
-    lineOf readable writable written writeAs bodyOf shaped inTable headKind recordKind tapKind questionKind takenKind
+    lineOf readable writable written writeAs bodyBy shaped inTable headKind recordKind tapKind questionKind takenKind
     alreadyKind verdictKind waitKind refusalKind gossipTakenKind openKind partsAt listOf numberFrom bytesOf stampFits
-    word tapFits frontEnds serials promptCount showings accept decline saidOf bodyFits inRange fewest most logRoom
+    word tapFits frontEnds serials promptCount showings accept decline bodyOf bodyFits inRange fewest most logRoom
     recordFits isKnown knows
 edges = (refl, refl, refl, refl)

@@ -17,8 +17,8 @@ use Rattle.ledger.specs.Record.{Record, isKnown, recordFits}
 use Rattle.ledger.specs.Message.{inRange}
 use Rattle.wire.specs.declared.Said.{Said}
 use Rattle.wire.specs.declared.Said.the-variants as said
-use Rattle.wire.specs.declared.Body.{Body}
-use Rattle.wire.specs.declared.Body.the-variants.{Long, Bad}
+use Rattle.wire.specs.declared.BodyLength.{BodyLength}
+use Rattle.wire.specs.declared.BodyLength.the-variants.{Long, Bad}
 
 -- A kind of message. Its line is the kind and then the values of its fields: `rules` judges a line, `said` is what it
 -- says.
@@ -32,8 +32,8 @@ pub record Kind : Type 0 where
 abbrev pub widths : Kind → List ℕ
 widths k = 1 ∷ k .body
 
-abbrev pub size : Kind → ℕ
-size k = total (widths k)
+abbrev pub sizeOf : Kind → ℕ
+sizeOf k = total (widths k)
 
 -- the bytes of a stamp's part, of a bit for each part, and of a tap's five fields
 abbrev pub partWidth : ℕ
@@ -207,7 +207,7 @@ unfoldable pub sendKind : Kind
 sendKind = record { number = sendNumber; body = sendBody; rules = λ l. true; said = λ l. said.Send }
 
 -- the kind fixes the body's length
-abbrev pub lookup : ℕ → List (ℕ × ℕ) → Body
+abbrev pub lookup : ℕ → List (ℕ × ℕ) → BodyLength
 lookup k [] = Bad 1
 lookup k (l ∷ t) = cond (eqb k (l .0)) (Long (l .1)) (lookup k t)
 
@@ -227,11 +227,11 @@ bodies =
     ∷ (sendNumber, total sendBody)
     ∷ []
 
-unfoldable pub bodyOf : ℕ → Body
-bodyOf k = lookup k bodies
+unfoldable pub bodyBy : ℕ → BodyLength
+bodyBy k = lookup k bodies
 
 -- how long a message of the kind is, its byte of kind too; 1 where there is no such kind
-abbrev pub bodyLong : Body → ℕ
+abbrev pub bodyLong : BodyLength → ℕ
 bodyLong (Long n) = n
 bodyLong (Bad r) = 0
 
@@ -250,9 +250,9 @@ abbrev pub longest : ℕ
 longest = headLong + logRoom * recordLong
 
 -- the bytes are of this kind and of its length
-abbrev pub isLong : Body → ℕ → Bool
+abbrev pub isLong : BodyLength → ℕ → Bool
 isLong (Long n) long = eqb long (1 + n)
 isLong (Bad r) long = false
 
 unfoldable pub shaped : ℕ → List ℕ → Bool
-shaped k bytes = eqb (getD bytes 0 0) k && isLong (bodyOf k) (length bytes)
+shaped k bytes = eqb (getD bytes 0 0) k && isLong (bodyBy k) (length bytes)

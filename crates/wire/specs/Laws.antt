@@ -30,10 +30,10 @@ use Rattle.wire.specs.declared.Said.{Said}
 use Rattle.wire.specs.declared.Said.the-variants as said
 use Rattle.wire.specs.declared.Written.{Written}
 use Rattle.wire.specs.declared.Written.the-variants.{Wrote, Refused}
-use Rattle.wire.specs.declared.Body.{Body}
-use Rattle.wire.specs.declared.Body.the-variants.{Long}
+use Rattle.wire.specs.declared.BodyLength.{BodyLength}
+use Rattle.wire.specs.declared.BodyLength.the-variants.{Long}
 use Rattle.wire.specs.Said.{figures}
-use Rattle.wire.specs.Kinds.{Kind, widths, size, lookup, bodies, bodyOf, isLong, shaped, headKind, recordKind}
+use Rattle.wire.specs.Kinds.{Kind, widths, sizeOf, lookup, bodies, bodyBy, isLong, shaped, headKind, recordKind}
 use Rattle.wire.specs.Kinds.{tapKind, questionKind, takenKind, alreadyKind, verdictKind, waitKind, refusalKind}
 use Rattle.limits.specs.KindNumbers.{headNumber, recordNumber, tapNumber, questionNumber, takenNumber, alreadyNumber}
 use Rattle.limits.specs.KindNumbers.{verdictNumber, waitNumber, refusalNumber, gossipTakenNumber, openNumber}
@@ -57,13 +57,13 @@ lookup-few m k n (l ∷ ls) t e =
         omega (arith, leb→le (l .1) m (and-l (leb (l .1) m) (every (λ x. leb (x .1) m) ls) t))
     go false rec q = rec q
 
-pub body-few : (k n : ℕ) → bodyOf k ≡ Long n → n ≤ total recordBody
-unfolding bodyOf
+pub body-few : (k n : ℕ) → bodyBy k ≡ Long n → n ≤ total recordBody
+unfolding bodyBy
 body-few k n e = lookup-few (total recordBody) k n bodies tt e
 
 -- the table has the body's length, and what a line of the kind says is that line
 pub record Lawful (k : Kind) : Type 0 where
-  pub long : bodyOf (k .number) ≡ Long (total (k .body))
+  pub long : bodyBy (k .number) ≡ Long (total (k .body))
   pub told : (line : List ℕ) → length line ≡ length (widths k) → getD line 0 0 ≡ k .number
       → figures (k .said line) ≡ line
 
@@ -97,18 +97,18 @@ module _ (k : Kind) (line : List ℕ) (w : T (writable k line)) where
   unfolding lineOf written
   line-written = read-write (widths k) line in-widths
 
-  pub length-written : length (written k line) ≡ size k
+  pub length-written : length (written k line) ≡ sizeOf k
   unfolding written
   length-written = length-write (widths k) line in-widths
 
 module _ (k : Kind) (l : Lawful k) where
   -- bytes of the kind's shape
-  shape-from : (bytes : List ℕ) → getD bytes 0 0 ≡ k .number → length bytes ≡ size k → T (shaped (k .number) bytes)
+  shape-from : (bytes : List ℕ) → getD bytes 0 0 ≡ k .number → length bytes ≡ sizeOf k → T (shaped (k .number) bytes)
   unfolding shaped
   shape-from bytes e n =
-      both (eqb (getD bytes 0 0) (k .number)) (isLong (bodyOf (k .number)) (length bytes))
+      both (eqb (getD bytes 0 0) (k .number)) (isLong (bodyBy (k .number)) (length bytes))
       (eq→eqb (getD bytes 0 0) (k .number) e)
-      (subst (λ (b : Body). T (isLong b (length bytes))) (sym (l .long)) (eq→eqb (length bytes) (size k) n))
+      (subst (λ (b : BodyLength). T (isLong b (length bytes))) (sym (l .long)) (eq→eqb (length bytes) (sizeOf k) n))
 
   module _ (bytes : List ℕ) (r : T (readable k bytes)) where
     shape : T (shaped (k .number) bytes)
@@ -122,14 +122,14 @@ module _ (k : Kind) (l : Lawful k) where
     kind-first : getD bytes 0 0 ≡ k .number
     unfolding shaped
     kind-first = eqb→eq (getD bytes 0 0) (k .number)
-        (and-l (eqb (getD bytes 0 0) (k .number)) (isLong (bodyOf (k .number)) (length bytes)) shape)
+        (and-l (eqb (getD bytes 0 0) (k .number)) (isLong (bodyBy (k .number)) (length bytes)) shape)
 
-    pub length-readable : length bytes ≡ size k
+    pub length-readable : length bytes ≡ sizeOf k
     unfolding shaped
     length-readable =
-        eqb→eq (length bytes) (size k)
-        (subst (λ (b : Body). T (isLong b (length bytes))) (l .long)
-        (and-r (eqb (getD bytes 0 0) (k .number)) (isLong (bodyOf (k .number)) (length bytes)) shape))
+        eqb→eq (length bytes) (sizeOf k)
+        (subst (λ (b : BodyLength). T (isLong b (length bytes))) (l .long)
+        (and-r (eqb (getD bytes 0 0) (k .number)) (isLong (bodyBy (k .number)) (length bytes)) shape))
 
     pub figures-read : figures (readAs k bytes) ≡ lineOf k bytes
     unfolding readAs
@@ -219,36 +219,36 @@ module _ (k : Kind) (l : Lawful k) where
 -- what a writer answers and leaves
 module _ (k : Kind) (line out : List ℕ) where
   pub put-front :
-      T (writable k line) → size k ≤ length out
-      → (writeAs k line out .answer ≡ Wrote (size k)) × (take (size k) (writeAs k line out .bytes) ≡ written k line)
-      × (drop (size k) (writeAs k line out .bytes) ≡ drop (size k) out)
+      T (writable k line) → sizeOf k ≤ length out
+      → (writeAs k line out .answer ≡ Wrote (sizeOf k)) × (take (sizeOf k) (writeAs k line out .bytes) ≡ written k line)
+      × (drop (sizeOf k) (writeAs k line out .bytes) ≡ drop (sizeOf k) out)
   unfolding writeAs
   put-front w h =
-      rw (is-true (writable k line) w, le-ltb (length out) (size k) h) (
+      rw (is-true (writable k line) w, le-ltb (length out) (sizeOf k) h) (
         refl,
-        take-at (written k line) (drop (size k) out) (size k) (length-written k line w),
-        drop-at (written k line) (drop (size k) out) (size k) (length-written k line w),
+        take-at (written k line) (drop (sizeOf k) out) (sizeOf k) (length-written k line w),
+        drop-at (written k line) (drop (sizeOf k) out) (sizeOf k) (length-written k line w),
       )
 
   -- the output by the two tests
   outcome : Bool → Bool → Output
   outcome p q = cond p (cond q (refuse 12 out)
-      (record { answer = Wrote (size k); bytes = written k line ++ drop (size k) out })) (refuse 1 out)
+      (record { answer = Wrote (sizeOf k); bytes = written k line ++ drop (sizeOf k) out })) (refuse 1 out)
 
   pub wrote : (m : ℕ) → writeAs k line out .answer ≡ Wrote m
-      → T (writable k line) × (size k ≤ length out) × (m ≡ size k)
+      → T (writable k line) × (sizeOf k ≤ length out) × (m ≡ sizeOf k)
   unfolding writeAs outcome
-  wrote m = go (writable k line) (ltb (length out) (size k)) refl
+  wrote m = go (writable k line) (ltb (length out) (sizeOf k)) refl
     where
-      go : (p q : Bool) → ltb (length out) (size k) ≡ q → outcome p q .answer ≡ Wrote m
-          → T p × (size k ≤ length out) × (m ≡ size k)
+      go : (p q : Bool) → ltb (length out) (sizeOf k) ≡ q → outcome p q .answer ≡ Wrote m
+          → T p × (sizeOf k ≤ length out) × (m ≡ sizeOf k)
       go true true t e = let z : _≡_ {A = ℕ} 0 1 = cc in absurd (omega arith)
-      go true false t e = (tt, ltb-false (length out) (size k) t, cc)
+      go true false t e = (tt, ltb-false (length out) (sizeOf k) t, cc)
       go false q t e = let z : _≡_ {A = ℕ} 0 1 = cc in absurd (omega arith)
 
   pub refused-leaves : (r : ℕ) → writeAs k line out .answer ≡ Refused r → writeAs k line out .bytes ≡ out
   unfolding writeAs outcome
-  refused-leaves r = go (writable k line) (ltb (length out) (size k))
+  refused-leaves r = go (writable k line) (ltb (length out) (sizeOf k))
     where
       go : (p q : Bool) → outcome p q .answer ≡ Refused r → outcome p q .bytes ≡ out
       go true true e = refl
@@ -256,8 +256,8 @@ module _ (k : Kind) (line out : List ℕ) where
       go false q e = refl
 
 -- the front of the output reads as what was written there
-pub read-front : (k : Kind) → Lawful k → (v : Said) (out : List ℕ) → T (writable k (figures v)) → size k ≤ length out
-    → readAs k (take (size k) (writeAs k (figures v) out .bytes)) ≡ v
+pub read-front : (k : Kind) → Lawful k → (v : Said) (out : List ℕ) → T (writable k (figures v)) → sizeOf k ≤ length out
+    → readAs k (take (sizeOf k) (writeAs k (figures v) out .bytes)) ≡ v
 read-front k l v out w h = ap (readAs k) (put-front k (figures v) out w h .1) ∙ read-value k l v w
 
 -- two outcomes that a promise allows are one
@@ -283,49 +283,49 @@ one-by-one number n [] e h = absurd (omega arith)
 one-by-one number n (x ∷ line) e h = ap₂ _∷_ (sym h) (seen-all n 1 (x ∷ line) (omega arith))
 
 pub lawful-head : Lawful headKind
-unfolding headKind bodyOf partsAt listOf seen
+unfolding headKind bodyBy partsAt listOf seen
 lawful-head = record { long = refl; told = one-by-one headNumber (length headBody) }
 
 pub lawful-record : (n : ℕ) (m : Stamp) → Lawful (recordKind n m)
-unfolding recordKind bodyOf partsAt listOf seen
+unfolding recordKind bodyBy partsAt listOf seen
 lawful-record n m = record { long = refl; told = one-by-one recordNumber (length recordBody) }
 
 pub lawful-tap : (n : ℕ) → Lawful (tapKind n)
-unfolding tapKind bodyOf partsAt listOf seen
+unfolding tapKind bodyBy partsAt listOf seen
 lawful-tap n = record { long = refl; told = one-by-one tapNumber (length tapMessageBody) }
 
 pub lawful-question : (n : ℕ) → Lawful (questionKind n)
-unfolding questionKind bodyOf partsAt listOf seen
+unfolding questionKind bodyBy partsAt listOf seen
 lawful-question n = record { long = refl; told = one-by-one questionNumber (length questionBody) }
 
 pub lawful-taken : Lawful takenKind
-unfolding takenKind bodyOf partsAt listOf seen
+unfolding takenKind bodyBy partsAt listOf seen
 lawful-taken = record { long = refl; told = one-by-one takenNumber (length takenBody) }
 
 pub lawful-already : Lawful alreadyKind
-unfolding alreadyKind bodyOf partsAt listOf seen
+unfolding alreadyKind bodyBy partsAt listOf seen
 lawful-already = record { long = refl; told = one-by-one alreadyNumber (length alreadyBody) }
 
 pub lawful-verdict : Lawful verdictKind
-unfolding verdictKind bodyOf partsAt listOf seen
+unfolding verdictKind bodyBy partsAt listOf seen
 lawful-verdict = record { long = refl; told = one-by-one verdictNumber (length verdictBody) }
 
 pub lawful-wait : Lawful waitKind
-unfolding waitKind bodyOf seen
+unfolding waitKind bodyBy seen
 lawful-wait = record { long = refl; told = one-by-one waitNumber (length waitBody) }
 
 pub lawful-refusal : Lawful refusalKind
-unfolding refusalKind bodyOf seen
+unfolding refusalKind bodyBy seen
 lawful-refusal = record { long = refl; told = one-by-one refusalNumber (length refusalBody) }
 
 pub lawful-gossip-taken : Lawful gossipTakenKind
-unfolding gossipTakenKind bodyOf seen
+unfolding gossipTakenKind bodyBy seen
 lawful-gossip-taken = record { long = refl; told = one-by-one gossipTakenNumber (length gossipTakenBody) }
 
 pub lawful-open : Lawful openKind
-unfolding openKind bodyOf seen
+unfolding openKind bodyBy seen
 lawful-open = record { long = refl; told = one-by-one openNumber (length openBody) }
 
 pub lawful-send : Lawful sendKind
-unfolding sendKind bodyOf seen
+unfolding sendKind bodyBy seen
 lawful-send = record { long = refl; told = one-by-one sendNumber (length sendBody) }

@@ -11,8 +11,8 @@ use Rattle.numbers.specs.Fields.{fieldsFit, putFields}
 use Rattle.wire.specs.declared.Said.the-variants as said
 use Rattle.wire.specs.declared.Written.{Written}
 use Rattle.wire.specs.declared.Written.the-variants.{Refused}
-use Rattle.wire.specs.declared.Body.the-variants.{Long}
-use Rattle.wire.specs.Kinds.{Kind, widths, bodyOf, isLong, shaped}
+use Rattle.wire.specs.declared.BodyLength.the-variants.{Long}
+use Rattle.wire.specs.Kinds.{Kind, widths, bodyBy, isLong, shaped}
 use Rattle.wire.specs.Read.{lineOf, readable, readAs}
 use Rattle.wire.specs.Write.{Output, Meets, putLine, writable, written, writeAs}
 
@@ -24,7 +24,7 @@ pub passed : {answer t : Bool} → answer ≡ t → not answer ≡ false → t �
 passed {answer} e h = sym e ∙ not-false answer h
 
 -- bytes of a kind have its length
-pub shaped-long : (k n : ℕ) (bytes : List ℕ) → bodyOf k ≡ Long n → shaped k bytes ≡ true → length bytes ≡ 1 + n
+pub shaped-long : (k n : ℕ) (bytes : List ℕ) → bodyBy k ≡ Long n → shaped k bytes ≡ true → length bytes ≡ 1 + n
 unfolding shaped
 shaped-long k n bytes b e =
     eqb-true (length bytes) (1 + n)

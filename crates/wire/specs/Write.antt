@@ -9,7 +9,7 @@ use Rattle.numbers.specs.Fields.{writeFields, fieldsFit, putFields}
 use Rattle.stamp.specs.Stamp.{total}
 use Rattle.wire.specs.declared.Written.{Written}
 use Rattle.wire.specs.declared.Written.the-variants.{Wrote, Refused}
-use Rattle.wire.specs.Kinds.{Kind, widths, size}
+use Rattle.wire.specs.Kinds.{Kind, widths, sizeOf}
 
 pub record Output : Type 0 where
   pub answer : Written
@@ -36,8 +36,8 @@ written k line = writeFields (widths k) line
 unfoldable pub writeAs : Kind → List ℕ → List ℕ → Output
 writeAs k line out =
     cond (writable k line)
-    (cond (ltb (length out) (size k)) (refuse 12 out)
-    (record { answer = Wrote (size k); bytes = written k line ++ drop (size k) out }))
+    (cond (ltb (length out) (sizeOf k)) (refuse 12 out)
+    (record { answer = Wrote (sizeOf k); bytes = written k line ++ drop (sizeOf k) out }))
     (refuse 1 out)
 
 -- the last step of every writer, where the number and the rules are in order

@@ -7,7 +7,7 @@ use stamp::Parts;
 use tally::Tap;
 ghost use mathlib.Core.Path.{_≡_};
 ghost use Rattle.stamp.specs.Stamp.{total};
-ghost use Rattle.wire.specs.Kinds.{bodyOf, shaped};
+ghost use Rattle.wire.specs.Kinds.{bodyBy, shaped};
 ghost use Rattle.wire.specs.Requests.{replyRoom};
 ghost use Rattle.wire.specs.Write.{Meets, putLine};
 
@@ -63,7 +63,7 @@ pub enum Written {
 }
 
 // How long a kind's body is, or that there is no such kind.
-pub enum Body {
+pub enum BodyLength {
     Long(usize),
     Bad(u64),
 }
@@ -143,23 +143,23 @@ pub const BAD: u64 = 1;
 pub const SHORT: u64 = 12;
 
 // The body's length that the kind fixes.
-pub fn body_of(kind: u8) -> Body
-    ensures { λ r. ⌜ r ≡ bodyOf kind ⌝ }
+pub fn body_of(kind: u8) -> BodyLength
+    ensures { λ r. ⌜ r ≡ bodyBy kind ⌝ }
 {
     match kind {
-        HEAD => Body::Long(HEAD_BODY),
-        RECORD => Body::Long(RECORD_BODY),
-        TAP => Body::Long(TAP_BODY),
-        QUESTION => Body::Long(QUESTION_BODY),
-        TAKEN => Body::Long(TAKEN_BODY),
-        ALREADY => Body::Long(ALREADY_BODY),
-        VERDICT => Body::Long(VERDICT_BODY),
-        WAIT => Body::Long(WAIT_BODY),
-        REFUSAL => Body::Long(REFUSAL_BODY),
-        GOSSIP_TAKEN => Body::Long(GOSSIP_TAKEN_BODY),
-        OPEN => Body::Long(OPEN_BODY),
-        SEND => Body::Long(SEND_BODY),
-        _ => Body::Bad(BAD),
+        HEAD => BodyLength::Long(HEAD_BODY),
+        RECORD => BodyLength::Long(RECORD_BODY),
+        TAP => BodyLength::Long(TAP_BODY),
+        QUESTION => BodyLength::Long(QUESTION_BODY),
+        TAKEN => BodyLength::Long(TAKEN_BODY),
+        ALREADY => BodyLength::Long(ALREADY_BODY),
+        VERDICT => BodyLength::Long(VERDICT_BODY),
+        WAIT => BodyLength::Long(WAIT_BODY),
+        REFUSAL => BodyLength::Long(REFUSAL_BODY),
+        GOSSIP_TAKEN => BodyLength::Long(GOSSIP_TAKEN_BODY),
+        OPEN => BodyLength::Long(OPEN_BODY),
+        SEND => BodyLength::Long(SEND_BODY),
+        _ => BodyLength::Bad(BAD),
     }
 }
 
@@ -195,7 +195,7 @@ pub fn is_kind(msg: &[u8], kind: u8) -> bool
         return false;
     }
     let body = body_of(kind);
-    let Body::Long(long) = body else {
+    let BodyLength::Long(long) = body else {
         return false;
     };
     msg.len() - 1 == long

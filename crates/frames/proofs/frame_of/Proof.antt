@@ -8,8 +8,8 @@ use lib.ListN.{getD}
 use Rattle.stamp.specs.Stamp.{total}
 use Rattle.wire.specs.Kinds.{recordBody}
 use Rattle.wire.specs.Returns.{failed, passed}
-use Rattle.wire.specs.declared.Body.{Body}
-use Rattle.wire.specs.declared.Body.the-variants.{Long, Bad}
+use Rattle.wire.specs.declared.BodyLength.{BodyLength}
+use Rattle.wire.specs.declared.BodyLength.the-variants.{Long, Bad}
 use Rattle.frames.specs.Frame.{expected, bodyFrame}
 use Rattle.wire.specs.Laws.{body-few}
 use Rattle.frames.specs.declared.Frame.the-variants.{Stop}
@@ -18,7 +18,8 @@ use borrow.Author.Needs.{needs}
 use Rattle.frames.proofs.frame_of.Statement.{statement}
 use Rattle.frames.proofs.frame_of.Tie as tie
 
-never : (b : Body) → types.Run.OneOf (1 ∷ []) (denote.Enum.Declared.tagOf Rattle.wire.proofs.Body.the-type b)
+never : (b : BodyLength)
+    → types.Run.OneOf (1 ∷ []) (denote.Enum.Declared.tagOf Rattle.wire.proofs.BodyLength.the-type b)
     → Stop ≡ bodyFrame b
 never (Long m) h = absurd (omega arith)
 never (Bad r) h = refl

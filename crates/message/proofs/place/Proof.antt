@@ -1,12 +1,12 @@
 -- `message::place` meets its contract. Assumes nothing.
 use native.Mathlib.Omega.{arith}
 use borrow.Author.Needs.{needs}
-use Rattle.message.specs.Find.{placeOf}
+use Rattle.message.specs.Find.{placeFor}
 use Rattle.message.proofs.place.Statement.{statement}
 use Rattle.message.proofs.place.Tie as tie
 
 returns : tie.Need-returns
-unfolding placeOf
+unfolding placeFor
 returns c = (rw (c .count-below .ensures .0), omega (arith, c .count-below .ensures .1))
 
 pub place-spec : {M : Type 1} → statement M

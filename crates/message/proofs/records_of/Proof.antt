@@ -11,7 +11,7 @@ use Rattle.wire.specs.declared.Said.the-variants as said
 use Rattle.message.specs.Tags.{not-this}
 use Rattle.wire.specs.Head.{countIn}
 use Rattle.message.specs.Message.{partsOf, recordParts, wellFormed}
-use Rattle.message.specs.Find.{placeOf}
+use Rattle.message.specs.Find.{placeFor}
 use Rattle.message.specs.FindLaws.{end-part, none-refused, start-refused, place-next, found, none-found}
 use Rattle.message.specs.FindLaws.{start-some, start-none}
 use Rattle.message.specs.Told.{gossip-told, gossip-untold, head-count, well-long}
@@ -62,21 +62,21 @@ place-requires-2 c κs = fits (c .before .before)
 -- the two places, in the contract's words
 first : (c : tie.After-place2)
     → c .before .place .result
-    ≡ placeOf (c .before .before .before .before .before .before .before .before .args .origin)
+    ≡ placeFor (c .before .before .before .before .before .before .before .before .args .origin)
     (recordParts (c .before .before .before .before .before .before .before .before .args .msg .now))
 first c =
     let k = c .before .before .before in
     c .before .place .ensures .0
-    ∙ ap₂ (λ (o n : ℕ). placeOf o (partsOf n (k .before .before .before .before .before .args .msg .now)))
+    ∙ ap₂ (λ (o n : ℕ). placeFor o (partsOf n (k .before .before .before .before .before .args .msg .now)))
     (c .before .before .wide .ensures) (sym (counted k))
 
 second : (c : tie.After-place2)
-    → c .place2 .result ≡ placeOf (c .before .before .before .before .before .before .before .before .args .origin + 1)
+    → c .place2 .result ≡ placeFor (c .before .before .before .before .before .before .before .before .args .origin + 1)
     (recordParts (c .before .before .before .before .before .before .before .before .args .msg .now))
 second c =
     let k = c .before .before .before in
     c .place2 .ensures .0 ∙ ap₂
-    (λ (o n : ℕ). placeOf (o + 1) (partsOf n (k .before .before .before .before .before .args .msg .now)))
+    (λ (o n : ℕ). placeFor (o + 1) (partsOf n (k .before .before .before .before .before .args .msg .now)))
     (c .before .before .wide .ensures) (sym (counted k))
 
 rises : (c : tie.After-place2) → c .before .place .result ≤ c .place2 .result

@@ -5,7 +5,7 @@ use mathlib.Core.Bool.{true}
 use native.Mathlib.Omega.{arith}
 use Rattle.stamp.specs.Stamp.{total}
 use Rattle.limits.specs.KindNumbers.{alreadyNumber}
-use Rattle.wire.specs.Kinds.{shaped, bodyOf, alreadyBody, alreadyKind}
+use Rattle.wire.specs.Kinds.{shaped, bodyBy, alreadyBody, alreadyKind}
 use Rattle.wire.specs.Read.{lineOf}
 use Rattle.wire.specs.Returns.{failed, passed, shaped-long, not-shaped, kept}
 use borrow.Author.Needs.{needs}
@@ -20,7 +20,7 @@ unfolding alreadyKind
 returns c = not-shaped alreadyKind _ (failed (c .before .is-kind .ensures) (c .if1 .taken))
 
 read-fields-requires : tie.Need-read-fields-requires
-unfolding bodyOf
+unfolding bodyBy
 read-fields-requires c κs =
     let w = c .before .before in
     let bytes = w .before .before .before .before .args .msg .now in

@@ -2,7 +2,7 @@
 use mathlib.Core.Path.{_≡_, refl}
 use mathlib.Core.Bool.{true}
 use native.Mathlib.Omega.{arith}
-use Rattle.wire.specs.Kinds.{shaped, bodyOf, refusalKind}
+use Rattle.wire.specs.Kinds.{shaped, bodyBy, refusalKind}
 use Rattle.wire.specs.Read.{lineOf}
 use Rattle.wire.specs.Returns.{failed, passed, shaped-long, not-shaped, not-kept, kept}
 use borrow.Author.Needs.{needs}
@@ -17,7 +17,7 @@ unfolding refusalKind
 returns c = not-shaped refusalKind _ (failed (c .before .is-kind .ensures) (c .if1 .taken))
 
 read-fields-requires : tie.Need-read-fields-requires
-unfolding bodyOf
+unfolding bodyBy
 read-fields-requires c κs =
     let e = c .before .before in
     (refl, (omega (arith, shaped-long 9 1 (e .before .before .before .args .msg .now) refl (shape e)), tt))

@@ -4,7 +4,7 @@ use mathlib.Core.Bool.{true}
 use native.Mathlib.Omega.{arith}
 use Rattle.stamp.specs.Stamp.{total}
 use Rattle.limits.specs.KindNumbers.{verdictNumber}
-use Rattle.wire.specs.Kinds.{shaped, bodyOf, verdictBody, verdictKind}
+use Rattle.wire.specs.Kinds.{shaped, bodyBy, verdictBody, verdictKind}
 use Rattle.wire.specs.Read.{lineOf}
 use Rattle.wire.specs.Returns.{failed, passed, shaped-long, not-shaped, not-kept, kept}
 use borrow.Author.Needs.{needs}
@@ -19,7 +19,7 @@ unfolding verdictKind
 returns c = not-shaped verdictKind _ (failed (c .before .is-kind .ensures) (c .if1 .taken))
 
 read-fields-requires : tie.Need-read-fields-requires
-unfolding bodyOf
+unfolding bodyBy
 read-fields-requires c κs =
     let w = c .before .before in
     let bytes = w .before .before .before .before .args .msg .now in

@@ -3,7 +3,7 @@ use mathlib.Core.Path.{_≡_, refl}
 use mathlib.Core.Bool.{true}
 use native.Mathlib.Omega.{arith}
 use Rattle.limits.specs.KindNumbers.{waitNumber}
-use Rattle.wire.specs.Kinds.{shaped, bodyOf, bitsWidth, waitKind}
+use Rattle.wire.specs.Kinds.{shaped, bodyBy, bitsWidth, waitKind}
 use Rattle.wire.specs.Read.{lineOf}
 use Rattle.wire.specs.Returns.{failed, passed, shaped-long, not-shaped, kept}
 use borrow.Author.Needs.{needs}
@@ -18,7 +18,7 @@ unfolding waitKind
 returns c = not-shaped waitKind _ (failed (c .before .is-kind .ensures) (c .if1 .taken))
 
 read-fields-requires : tie.Need-read-fields-requires
-unfolding bodyOf
+unfolding bodyBy
 read-fields-requires c κs =
     let e = c .before .before in
     let long = shaped-long waitNumber bitsWidth (e .before .before .before .args .msg .now) refl (shape e) in

@@ -2,7 +2,7 @@
 use mathlib.Core.Path.{_≡_, refl}
 use mathlib.Core.Bool.{true}
 use native.Mathlib.Omega.{arith}
-use Rattle.wire.specs.Kinds.{shaped, bodyOf, openKind}
+use Rattle.wire.specs.Kinds.{shaped, bodyBy, openKind}
 use Rattle.wire.specs.Read.{lineOf}
 use Rattle.wire.specs.Returns.{failed, passed, shaped-long, not-shaped, kept}
 use borrow.Author.Needs.{needs}
@@ -17,7 +17,7 @@ unfolding openKind
 returns c = not-shaped openKind _ (failed (c .before .is-kind .ensures) (c .if1 .taken))
 
 read-fields-requires : tie.Need-read-fields-requires
-unfolding bodyOf
+unfolding bodyBy
 read-fields-requires c κs =
     let e = c .before .before in
     (refl, (omega (arith, shaped-long 11 2 (e .before .before .before .args .msg .now) refl (shape e)), tt))

@@ -5,7 +5,7 @@ use native.Mathlib.Omega.{arith}
 use Rattle.stamp.specs.Parts.{listOf, partsAt}
 use Rattle.stamp.specs.Stamp.{total}
 use Rattle.limits.specs.KindNumbers.{questionNumber}
-use Rattle.wire.specs.Kinds.{shaped, bodyOf, questionBody, questionKind}
+use Rattle.wire.specs.Kinds.{shaped, bodyBy, questionBody, questionKind}
 use Rattle.wire.specs.Read.{lineOf}
 use Rattle.wire.specs.Returns.{failed, passed, shaped-long, not-shaped, not-kept, kept}
 use borrow.Author.Needs.{needs}
@@ -20,7 +20,7 @@ unfolding questionKind
 returns c = not-shaped (questionKind _) _ (failed (c .before .is-kind .ensures) (c .if1 .taken))
 
 read-fields-requires : tie.Need-read-fields-requires
-unfolding bodyOf
+unfolding bodyBy
 read-fields-requires c κs =
     let w = c .before .before in
     let bytes = w .before .before .before .before .args .msg .now in

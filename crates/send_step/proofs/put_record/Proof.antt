@@ -6,7 +6,7 @@ use mathlib.Core.List.{List}
 use Rattle.wire.specs.Kinds.{recordLong}
 use Rattle.lists.specs.Part.{patch}
 use Rattle.lent.specs.SoundWords.{lawful-held}
-use Rattle.send_step.specs.Parts.{startOf}
+use Rattle.send_step.specs.Parts.{startAt}
 use Rattle.send_step.proofs.Turn.{row-writable, row-bytes}
 use borrow.Author.Needs.{needs}
 use Rattle.send_step.proofs.put_record.Statement.{statement}
@@ -41,9 +41,9 @@ returns c =
     let s = k .before .before .before in
     let w = s .args in
     let i = w .i in
-    let long : startOf i + recordLong - startOf i ≡ recordLong = omega arith in
+    let long : startAt i + recordLong - startAt i ≡ recordLong = omega arith in
     p .put-row-at .ensures
-    ∙ ap₂ (λ (j : ℕ) (ys : List ℕ). patch (startOf i) j (w .out .now) ys) long
+    ∙ ap₂ (λ (j : ℕ) (ys : List ℕ). patch (startAt i) j (w .out .now) ys) long
     (row-bytes (w .b .now) (s .pre .0) (w .m) (s .pre .1 .0) i (s .pre .1 .1 .0) (k .log-row .result)
     (k .log-row .ensures .0) _ (n .screens-of .ensures .0))
 

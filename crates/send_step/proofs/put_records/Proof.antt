@@ -7,7 +7,7 @@ use Rattle.wire.specs.Kinds.{headLong}
 use Rattle.meaning.specs.Step.{send}
 use Rattle.lent.specs.SoundWords.{lawful-held}
 use Rattle.lent.specs.Words.{bookOf}
-use Rattle.send_step.specs.Parts.{startOf, withRecords}
+use Rattle.send_step.specs.Parts.{startAt, withRecords}
 use Rattle.send_step.proofs.Turn.{sent-next, sent-last}
 use borrow.Author.Needs.{needs}
 use Rattle.send_step.proofs.put_records.Statement.{statement}
@@ -17,8 +17,8 @@ abbrev Inv-loop : tie.InvT-loop
 Inv-loop b m out₀ n i₀ out i =
     (i ≤ length ((bookOf b) .log))
     × (length out ≡ length out₀)
-    × (withRecords (send (bookOf b)) ((bookOf b) .log) headLong (startOf (length ((bookOf b) .log))) out₀
-    ≡ withRecords (send (bookOf b)) (drop i ((bookOf b) .log)) (startOf i) (startOf (length ((bookOf b) .log))) out)
+    × (withRecords (send (bookOf b)) ((bookOf b) .log) headLong (startAt (length ((bookOf b) .log))) out₀
+    ≡ withRecords (send (bookOf b)) (drop i ((bookOf b) .log)) (startAt i) (startAt (length ((bookOf b) .log))) out)
 
 abbrev μ-loop : tie.MeasureT-loop
 μ-loop b m out₀ n i₀ out i = n - i

@@ -4,7 +4,7 @@ use Rattle.message.specs.Message.{messageBytes}
 use Rattle.meaning.specs.Step.{send}
 use Rattle.lent.specs.SoundWords.{lawful-held}
 use Rattle.lent.specs.Words.{bookOf}
-use Rattle.send_step.specs.Parts.{startOf}
+use Rattle.send_step.specs.Parts.{startAt}
 use Rattle.send_step.proofs.Turn.{sent-long, sent-whole, too-short, fits-front}
 use borrow.Author.Needs.{needs}
 use Rattle.send_step.proofs.send_book.Statement.{statement}
@@ -19,7 +19,7 @@ returns c =
     let s = l .before .before .before in
     let ws = s .args .b .now in
     let n = l .logged-of .result in
-    too-short (messageBytes (send (bookOf ws))) (s .args .out .now) (startOf n)
+    too-short (messageBytes (send (bookOf ws))) (s .args .out .now) (startAt n)
     (sent-long ws (s .pre) n (l .logged-of .ensures .0)) (c .if1 .taken)
 
 put-records-requires : tie.Need-put-records-requires
@@ -38,7 +38,7 @@ returns-2 c =
     let s = l .before .before .before in
     let ws = s .args .b .now in
     let n = l .logged-of .result in
-    fits-front (messageBytes (send (bookOf ws))) (s .args .out .now) (startOf n)
+    fits-front (messageBytes (send (bookOf ws))) (s .args .out .now) (startAt n)
     (sent-long ws (s .pre) n (l .logged-of .ensures .0)) (t .if1 .left) _
     (sent-whole ws (s .pre) (s .args .out .now) _ _ (h .put-head .ensures) (r .put-records .ensures))
 

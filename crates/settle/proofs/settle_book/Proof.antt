@@ -5,7 +5,7 @@ use Rattle.stamp.specs.Stamp.{Stamp}
 use Rattle.ledger.specs.Log.{newlyApplied}
 use Rattle.lent.specs.Words.{bookOf, wordsOf}
 use Rattle.settle.specs.Moves.{applyAll}
-use Rattle.settle.specs.Ready.{Ready}
+use Rattle.settle.specs.Ready.{Appliable}
 use Rattle.settle.proofs.Turn.{applied-held, applied-me, shed-settled}
 use borrow.Author.Needs.{needs}
 use Rattle.settle.proofs.settle_book.Statement.{statement}
@@ -17,7 +17,7 @@ apply-log-requires c κs =
     let s = k .before .before .before .before in
     let w = s .args in
     let here = sym (k .ready-of .ensures .0) in
-    let ready = subst (λ (x : Stamp). Ready (w .before .now) x (bookOf (w .b .now))) here (s .pre .1 .1 .1) in
+    let ready = subst (λ (x : Stamp). Appliable (w .before .now) x (bookOf (w .b .now))) here (s .pre .1 .1 .1) in
     (s .pre .0, ((search needs, search needs), ready))
 
 drop-log-requires : tie.Need-drop-log-requires

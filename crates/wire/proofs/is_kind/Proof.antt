@@ -6,15 +6,15 @@ use mathlib.Core.Bool.{false}
 use mathlib.Core.List.{[], _∷_}
 use lib.ListN.{length}
 use Rattle.wire.specs.Kinds.{isLong}
-use Rattle.wire.specs.declared.Body.{Body}
-use Rattle.wire.specs.declared.Body.the-variants.{Long, Bad}
+use Rattle.wire.specs.declared.BodyLength.{BodyLength}
+use Rattle.wire.specs.declared.BodyLength.the-variants.{Long, Bad}
 use Rattle.wire.proofs.Shape.{not-long, empty, another, settled}
 use borrow.Author.Needs.{needs}
 use Rattle.wire.proofs.is_kind.Statement.{statement}
 use Rattle.wire.proofs.is_kind.Tie as tie
 
-never : (b : Body) (n : ℕ)
-    → types.Run.OneOf (1 ∷ []) (denote.Enum.Declared.tagOf Rattle.wire.proofs.Body.the-type b)
+never : (b : BodyLength) (n : ℕ)
+    → types.Run.OneOf (1 ∷ []) (denote.Enum.Declared.tagOf Rattle.wire.proofs.BodyLength.the-type b)
     → isLong b n ≡ false
 never (Long m) n h = absurd (omega arith)
 never (Bad r) n h = refl

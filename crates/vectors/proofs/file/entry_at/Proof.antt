@@ -2,7 +2,7 @@
 use native.Mathlib.Omega.{arith}
 use mathlib.Core.Path.{_≡_, sym, _∙_}
 use borrow.Author.Needs.{needs}
-use Rattle.vectors.specs.File.{Within, fieldAt}
+use Rattle.vectors.specs.File.{Inside, fieldAt}
 use Rattle.vectors.specs.FileLaws.{field-within, entry-unnamed, entry-end}
 use Rattle.vectors.specs.FileLaws.{entry-unasked, entry-unanswered, entry-whole}
 use Rattle.vectors.specs.declared.file.Field.the-variants.{Stands}
@@ -23,7 +23,7 @@ named e =
     let f = e .before .before .before in
     sym (f .first .given .1) ∙ f .before .before .field-at .ensures
 
-name-within : (e : tie.Else1) → Within (nameOf e) (begin e .args .file .now)
+name-within : (e : tie.Else1) → Inside (nameOf e) (begin e .args .file .now)
 name-within e = let s = begin e in field-within (s .args .at) 1 (s .args .file .now) (s .pre) _ (sym (named e)) .1
 
 -- the input stands
