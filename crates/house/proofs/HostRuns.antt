@@ -33,12 +33,8 @@ use Rattle.house.specs.HostHouse as host
 use Rattle.house.specs.HostHouse.{madeIn, afterCall, Call, call, HostRun, HostDemand}
 use Rattle.house.specs.LentHouse.{LentHouse, madeBy, lentRequest, lentSend, MayCome, LentStep, hears, sends}
 use Rattle.house.specs.LentHouse.{LentRun, opened, onward, held, LentDemand}
-use Rattle.house.proofs.Invariant.{put-either}
+use Rattle.house.proofs.Invariant.{put-back}
 use Rattle.house.proofs.LentRuns.{lent-demand}
-
--- words put where they were
-put-back : {A : Type 0} (f : ℕ → A) (i : ℕ) → put f i (f i) ≡ f
-put-back f i = λ j. λ k. either (put-either f i (f i) k) (λ p. p .1 ∙ ap f (sym (p .0))) (λ p. p .1) j
 
 module _ (n : ℕ) (h : LentHouse) (i : ℕ) (u : i < n) (bytes out : List ℕ)
     (from : T (wellFormed bytes) → bytes ∈ h .sent) where

@@ -143,6 +143,10 @@ put-either books i b j =
           (is-false (eqb j i) (not-from (eqb j i) (λ t. d (eqb→eq j i t)))),
     ))
 
+-- what is put where it was
+pub put-back : {A : Type 0} (f : ℕ → A) (i : ℕ) → put f i (f i) ≡ f
+put-back f i = λ j. λ k. either (put-either f i (f i) k) (λ p. p .1 ∙ ap f (sym (p .0))) (λ p. p .1) j
+
 -- What a step at screen i has seen to, beside `Ready`: the records that came are taken, and so on.
 pub record Onward (n : ℕ) (h : House) (i : ℕ) (rows : List Stamp) (new : List Record) (history′ : List Record) : Type 0
   where

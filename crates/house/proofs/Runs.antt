@@ -1,7 +1,7 @@
 -- Every run of a house keeps the invariant. Assumes nothing.
 use Prim.Native.Nat.{ℕ, _≤_, _<_, suc}
 use native.Mathlib.Omega.{arith}
-use mathlib.Core.Path.{refl, _≡_, fun-ext, _∙_, ap, sym, ap₂, subst}
+use mathlib.Core.Path.{refl, _≡_, _∙_, ap, sym, ap₂, subst}
 use mathlib.Core.Logic.{inl, inr, _⊎_, _≢_}
 use mathlib.Core.Bool.{not, Bool, true, false, cond}
 use mathlib.Core.List.{[], List, _∷_, _++_, List·Memᴰ·cases-cons}
@@ -29,8 +29,8 @@ use Rattle.meaning.specs.StepLaws.{Stopped, TakeDone, take-ready, new-origin, o
 use Rattle.meaning.specs.StepLaws.{gossip-ready, new-ones, gossip-now, gossip-row, tap-cases, gossip-cases}
 use Rattle.house.specs.House.{openHouse, House, put, grown, MayCome, Step, asks, sends, afterRequest, afterSend}
 use Rattle.house.specs.House.{onward, Run, opened}
-use Rattle.house.proofs.Invariant.{ScreenOk, Inv, put-either, Onward, knownOf, SentOk, screen-mono, advance}
-use Rattle.house.proofs.Invariant.{known-grows}
+use Rattle.house.proofs.Invariant.{ScreenOk, Inv, put-either, put-back, Onward, knownOf, SentOk, screen-mono}
+use Rattle.house.proofs.Invariant.{advance, known-grows}
 
 screen-fresh : (n : ℕ) → fewest ≤ n → n ≤ most → (i : ℕ) → i < n
     → ScreenOk n (λ k. known (fresh k n)) [] [] i (fresh i n)
@@ -66,11 +66,7 @@ start n lo hi =
       };
     }
 
--- a stopped step, and a question, leave the house as it was
-put-same : (books : ℕ → Book) (i : ℕ) → put books i (books i) ≡ books
-put-same books i = fun-ext
-    (λ k. either (put-either books i (books i) k) (λ e. e .1 ∙ ap books (sym (e .0))) (λ e. e .1))
-
+-- the history after a reply that is not Taken, by no record, and by one that is taken
 grown-not : (r : Reply) (made hs : List Record) → T (not (isTaken r)) → grown r made hs ≡ hs
 unfolding grown
 grown-not r made hs t = ap (λ (c : Bool). cond c (made ++ hs) hs) (is-false (isTaken r) t)
@@ -98,7 +94,7 @@ reached h i made o = houseOf (put (h .book) i (o .book)) (h .sent) (grown (o .re
 reached-stays : (h : House) (i : ℕ) (made : List Record) (o : Outcome) → Stopped (h .book i) o → reached h i made o ≡ h
 reached-stays h i made o w =
     ap (reached h i made) (w .2)
-    ∙ ap₂ (λ (books : ℕ → Book) (hs : List Record). houseOf books (h .sent) hs) (put-same (h .book) i)
+    ∙ ap₂ (λ (books : ℕ → Book) (hs : List Record). houseOf books (h .sent) hs) (put-back (h .book) i)
     (grown-not (w .0) made (h .history) (w .1))
 
 abbrev pub taken-house : House → ℕ → Body → Stamp → House
@@ -119,7 +115,7 @@ took-house h i x l =
 -- so does one that makes no record and leaves the book
 kept-stays : (h : House) (i : ℕ) (r : Reply) → reached h i [] (record { reply = r; book = h .book i }) ≡ h
 kept-stays h i r =
-    ap₂ (λ (books : ℕ → Book) (hs : List Record). houseOf books (h .sent) hs) (put-same (h .book) i)
+    ap₂ (λ (books : ℕ → Book) (hs : List Record). houseOf books (h .sent) hs) (put-back (h .book) i)
     (grown-none r (h .history))
 
 question-stays : (h : House) (i p : ℕ) (l : Stamp) → reached h i [] (ask (h .book i) p l) ≡ h
