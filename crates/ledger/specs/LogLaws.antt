@@ -175,7 +175,7 @@ gapless-from n s m f =
     (λ u. or-r (ltb q (part s k)) (has (m .records) k (suc q)) (f k q h (nltb→le q (part s k) u) l))))
 
 -- places in order
-pub place-after : (x r : Record) → T (keyBefore (place x) (place r)) → r .origin ≡ x .origin → x .number < r .number
+place-after : (x r : Record) → T (keyBefore (place x) (place r)) → r .origin ≡ x .origin → x .number < r .number
 place-after x r t e =
     either (or-cases (ltb (x .origin) (r .origin))
     (eqb (x .origin) (r .origin) && (ltb (x .number) (r .number) || eqb (x .number) (r .number) && false)) t)
@@ -184,6 +184,11 @@ place-after x r t e =
     (and-r (eqb (x .origin) (r .origin)) (ltb (x .number) (r .number) || eqb (x .number) (r .number) && false) h))
     (λ l. ltb→lt (x .number) (r .number) l)
     (λ l. absurd (and-r (eqb (x .number) (r .number)) false l)))
+
+-- in a rising list a later record of one origin has a larger number
+pub later : (x : Record) (xs : List Record) → T (rising place (x ∷ xs)) → (r : Record) → r ∈ xs → r .origin ≡ x .origin
+    → x .number < r .number
+later x xs o r m e = place-after x r (head-before place x xs o m) e
 
 -- new records in order, each above s and at most hi, raise the sum by one each
 pub raise-total :
@@ -196,15 +201,12 @@ raise-total (x ∷ xs) s hi o f g c =
       total-raised s (x .origin) (x .number) (f x here),
       raise-total xs (replace s (x .origin) (x .number)) hi (tail-rising place x xs o)
           (λ r m. either (part-either s (x .origin) (x .number) (r .origin))
-          (λ e. omega (arith, e .1, later r m (e .0))) (λ e. omega (arith, e, f r (there m))))
+          (λ e. omega (arith, e .1, later x xs o r m (e .0))) (λ e. omega (arith, e, f r (there m))))
           (λ r m. g r (there m))
           (λ k. either (part-either s (x .origin) (x .number) k) (λ e. omega (arith, e .1, at k (e .0)))
           (λ e. omega (arith, e, c k))),
     )
   where
-    later : (r : Record) → r ∈ xs → r .origin ≡ x .origin → x .number < r .number
-    later r m e = place-after x r (head-before place x xs o m) e
-
     at : (k : ℕ) → k ≡ x .origin → x .number ≤ part hi k
     at k e = subst (λ (j : ℕ). x .number ≤ part hi j) (sym e) (g x here)
 

@@ -19,12 +19,12 @@ use Rattle.lists.specs.Tests.{allBelow}
 use Rattle.lists.specs.Order.{rising}
 use Rattle.lists.specs.TestLaws.{_∈_, here, either, or-cases, or-l, or-r, allBelow-at, allBelow-from, same-test}
 use Rattle.lists.specs.ElementLaws.{same-or-not, below-same}
-use Rattle.lists.specs.Sorted.{head-before, tail-rising}
+use Rattle.lists.specs.Sorted.{tail-rising}
 use Rattle.stamp.specs.Stamp.{Stamp, part}
 use Rattle.ledger.specs.Record.{Record, place, has}
 use Rattle.ledger.specs.RecordLaws.{has-at, has-from}
 use Rattle.ledger.specs.Log.{allHeld, gapless}
-use Rattle.ledger.specs.LogLaws.{place-after}
+use Rattle.ledger.specs.LogLaws.{later}
 use Rattle.ledger.specs.Message.{Message}
 use Rattle.log.specs.Lowest.{lowestFrom, everywhere-lowest}
 
@@ -100,10 +100,6 @@ finds (x ∷ xs) s k e h o f =
     (tail-rising place x xs o)
     (λ q b. either (le-or-lt (suc q) (part (climbed s x) k)) (λ l. inr l) (λ l. above q b l (one-record s x k h)))
   where
-    -- a later record of one origin has a larger number
-    later : (r : Record) → r ∈ xs → r .origin ≡ x .origin → x .number < r .number
-    later r m c = place-after x r (head-before place x xs o m) c
-
     -- the next number is there, so x cannot have passed it
     passed : (q : ℕ) → q < e → x .origin ≡ k → x .number ≡ suc q → part s k < q → ⊥
     passed q b c d l = either (f (part s k) (omega arith)) (λ t. gone (has-at (x ∷ xs) k (suc (part s k)) t))
@@ -111,7 +107,7 @@ finds (x ∷ xs) s k e h o f =
       where
         gone : ((r : Record) × (r ∈ x ∷ xs) × (r .origin ≡ k) × (r .number ≡ suc (part s k))) → ⊥
         gone w = either (List·Memᴰ·cases-cons (w .1)) (λ u. omega (arith, ap (λ (y : Record). y .number) u, w .3))
-            (λ m. omega (arith, later (w .0) m (w .2 ∙ sym c), w .3))
+            (λ m. omega (arith, later x xs o (w .0) m (w .2 ∙ sym c), w .3))
 
     -- x itself is no number above the climb: it would be the next, or have passed the next
     not-x : (q : ℕ) → q < e → part (climbed s x) k < suc q → x .origin ≡ k → x .number ≡ suc q
