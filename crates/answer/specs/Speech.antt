@@ -1,46 +1,43 @@
 -- A reply as bytes: the kind of message that says it, and its one writing. Assumes nothing.
-use Prim.Native.Nat.{ℕ}
-use mathlib.Core.Bool.{Bool}
-use mathlib.Core.List.{List}
-use lib.ListN.{getD}
-use Rattle·wire.specs.Kinds.{Kind, takenKind, alreadyKind, verdictKind, waitKind, refusalKind, gossipTakenKind}
-use Rattle·wire.specs.Kinds.{messageLong}
-use Rattle·wire.specs.Write.{Output, writable, written, writeAs}
-use Rattle·wire.specs.declared.Said.{Said}
-use Rattle·wire.specs.declared.Said.the-variants as said
-use Rattle·meaning.specs.Reply.{Reply, taken, already, verdict, wait, refusal, gossiped, figures}
-use Rattle·promise.specs.declared.Reply as answer
-use Rattle·promise.specs.declared.Reply.the-variants as says
+use Rattle.std.specs.Prelude.{ℕ, Bool, List, get_or}
+use Rattle.wire.specs.Kinds.{Kind, taken_kind, already_kind, verdict_kind, wait_kind, refusal_kind, gossip_taken_kind}
+use Rattle.wire.specs.Kinds.{message_long}
+use Rattle.wire.specs.Write.{Output, writable, written, write_as}
+use Rattle.wire.specs.declared.Said.{Said}
+use Rattle.wire.specs.declared.Said.TheVariants as said
+use Rattle.meaning.specs.Reply.{Reply, taken, already, verdict, wait, refusal, gossiped, figures}
+use Rattle.promise.specs.declared.Reply as answer
+use Rattle.promise.specs.declared.Reply.TheVariants as says
 
 -- kinds 5 to 10
-abbrev pub kindOf : Reply → Kind
-kindOf (taken s) = takenKind
-kindOf (already s) = alreadyKind
-kindOf (verdict v h a d s) = verdictKind
-kindOf (wait bits) = waitKind
-kindOf (refusal k) = refusalKind
-kindOf (gossiped new applied) = gossipTakenKind
+abbrev pub kind_of : Reply → Kind
+kind_of (taken s) = taken_kind
+kind_of (already s) = already_kind
+kind_of (verdict v h a d s) = verdict_kind
+kind_of (wait bits) = wait_kind
+kind_of (refusal k) = refusal_kind
+kind_of (gossiped new applied) = gossip_taken_kind
 
 -- each value is in its width, and the field rules are kept: a writer takes it
 abbrev pub sayable : Reply → Bool
-sayable r = writable (kindOf r) (figures r)
+sayable r = writable (kind_of r) (figures r)
 
-unfoldable pub bytesFor : Reply → List ℕ
-bytesFor r = written (kindOf r) (figures r)
+unfoldable pub bytes_for : Reply → List ℕ
+bytes_for r = written (kind_of r) (figures r)
 
 -- how long they are, by the kind's number
-abbrev pub longOf : Reply → ℕ
-longOf r = messageLong (getD (figures r) 0 0)
+abbrev pub long_of : Reply → ℕ
+long_of r = message_long (get_or (figures r) 0 0)
 
 -- at the front of an output: 1 where it is not sayable, then 12 where the output is shorter
-unfoldable pub sayOn : Reply → List ℕ → Output
-sayOn r out = writeAs (kindOf r) (figures r) out
+unfoldable pub say_on : Reply → List ℕ → Output
+say_on r out = write_as (kind_of r) (figures r) out
 
 -- the message of the wire that says an answer
-abbrev pub saidOf : answer.Reply → Said
-saidOf (says.Taken s) = said.Taken s
-saidOf (says.Already s) = said.Already s
-saidOf (says.Verdict v h a d s) = said.Verdict v h a d s
-saidOf (says.Wait bits) = said.Wait bits
-saidOf (says.Refused k) = said.Refusal k
-saidOf (says.Gossiped new applied) = said.GossipTaken new applied
+abbrev pub said_of : answer.Reply → Said
+said_of (says.Taken s) = said.Taken s
+said_of (says.Already s) = said.Already s
+said_of (says.Verdict v h a d s) = said.Verdict v h a d s
+said_of (says.Wait bits) = said.Wait bits
+said_of (says.Refused k) = said.Refusal k
+said_of (says.Gossiped new applied) = said.GossipTaken new applied

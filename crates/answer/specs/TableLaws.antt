@@ -1,40 +1,36 @@
 -- Laws: the table of requests has the kinds and rooms of the wire's. Assumes nothing.
-use Prim.Native.Nat.{ℕ}
-use native.Mathlib.Omega.{arith}
-use mathlib.Core.Path.{_≡_, refl}
-use mathlib.Core.Bool.{Bool, true, false, cond}
-use mathlib.Core.List.{List, [], _∷_, map}
-use lib.Dec.{eqb}
-use Rattle·wire.specs.Requests.{requestTable, roomIn, replyRoom, refusalLong}
-use Rattle·answer·specs.specs.Answer.{Line, lines, kindIn, roomBy, roomFor}
+use Rattle.std.specs.Prelude.{ℕ, ◌≡◌, refl, Bool, true, false, cond, List, [], ◌∷◌, map, eqb}
+use Rattle.std.proofs.Common.{arith}
+use Rattle.wire.specs.Requests.{request_table, room_in, reply_room, refusal_long}
+use Rattle.answer.specs.Answer.{Line, lines, kind_in, room_by, room_for}
 
 abbrev told : Line → ℕ × ℕ
-told l = (l .number, l .room)
+told l = (l.number, l.room)
 
-pub same-table : map told lines ≡ requestTable
+pub same-table : map told lines ≡ request_table
 same-table = refl
 
 -- a line has room for something
 abbrev Roomy : List Line → Type 0
 Roomy [] = Unit {0}
-Roomy (l ∷ ls) = (l .room ≡ 0 → ⊥) × Roomy ls
+Roomy (l ∷ ls) = (l.room ≡ 0 → ⊥) × Roomy ls
 
-none-by : (ls : List Line) (k : ℕ) → Roomy ls → roomIn (map told ls) k ≡ 0 → roomBy ls k ≡ refusalLong
+none-by : (ls : List Line) (k : ℕ) → Roomy ls → room_in (map told ls) k ≡ 0 → room_by ls k ≡ refusal_long
 none-by [] k r e = refl
-none-by (l ∷ ls) k r e = go (eqb k (l .number)) (none-by ls k (r .1)) e
+none-by (l ∷ ls) k r e = go (eqb k l.number) (none-by ls k r.1) e
   where
-    go : (c : Bool) → (roomIn (map told ls) k ≡ 0 → roomBy ls k ≡ refusalLong)
-        → cond c (l .room) (roomIn (map told ls) k) ≡ 0 → cond c (l .room) (roomBy ls k) ≡ refusalLong
-    go true rest e = absurd (r .0 e)
+    go : (c : Bool) → (room_in (map told ls) k ≡ 0 → room_by ls k ≡ refusal_long)
+        → cond c l.room (room_in (map told ls) k) ≡ 0 → cond c l.room (room_by ls k) ≡ refusal_long
+    go true rest e = absurd (r.0 e)
     go false rest e = rest e
 
-some-by : (ls : List Line) (k : ℕ) → (roomIn (map told ls) k ≡ 0 → ⊥) → roomBy ls k ≡ roomIn (map told ls) k
+some-by : (ls : List Line) (k : ℕ) → (room_in (map told ls) k ≡ 0 → ⊥) → room_by ls k ≡ room_in (map told ls) k
 some-by [] k n = absurd (n refl)
-some-by (l ∷ ls) k n = go (eqb k (l .number)) (some-by ls k) n
+some-by (l ∷ ls) k n = go (eqb k l.number) (some-by ls k) n
   where
-    go : (c : Bool) → ((roomIn (map told ls) k ≡ 0 → ⊥) → roomBy ls k ≡ roomIn (map told ls) k)
-        → (cond c (l .room) (roomIn (map told ls) k) ≡ 0 → ⊥)
-        → cond c (l .room) (roomBy ls k) ≡ cond c (l .room) (roomIn (map told ls) k)
+    go : (c : Bool) → ((room_in (map told ls) k ≡ 0 → ⊥) → room_by ls k ≡ room_in (map told ls) k)
+        → (cond c l.room (room_in (map told ls) k) ≡ 0 → ⊥)
+        → cond c l.room (room_by ls k) ≡ cond c l.room (room_in (map told ls) k)
     go true rest n = refl
     go false rest n = rest n
 
@@ -43,10 +39,10 @@ roomy = (λ e. omega arith, (λ e. omega arith, (λ e. omega arith, (λ e. omega
 
 module _ (bytes : List ℕ) where
   -- what is no request has room for a refusal, a request the room of the wire's table
-  pub room-none : replyRoom (kindIn bytes) ≡ 0 → roomFor bytes ≡ refusalLong
-  unfolding replyRoom roomFor
-  room-none e = none-by lines (kindIn bytes) roomy e
+  pub room-none : reply_room (kind_in bytes) ≡ 0 → room_for bytes ≡ refusal_long
+  unfolding reply_room room_for
+  room-none e = none-by lines (kind_in bytes) roomy e
 
-  pub room-some : (replyRoom (kindIn bytes) ≡ 0 → ⊥) → roomFor bytes ≡ replyRoom (kindIn bytes)
-  unfolding replyRoom roomFor
-  room-some n = some-by lines (kindIn bytes) n
+  pub room-some : (reply_room (kind_in bytes) ≡ 0 → ⊥) → room_for bytes ≡ reply_room (kind_in bytes)
+  unfolding reply_room room_for
+  room-some n = some-by lines (kind_in bytes) n

@@ -1,52 +1,33 @@
 // One whole message answered on a lent book, into a lent output: an answer as bytes, the room for it; and the bytes
 // that open a book.
-use book::gossip_stop;
-use book::open;
-use book::question;
-use book::send;
-use book::tap_stop;
-use gossip_step::GossipStop;
-use gossip_step::take_gossip;
+ghost use Rattle.promise.specs.Spoken.{spoken};
+ghost use Rattle.wire.specs.Write.{Meets};
+ghost use Rattle.answer.specs.Speech.{say_on};
+ghost use Rattle.std.specs.Prelude.{◌≡◌, T};
+ghost use Rattle.promise.specs.Lent.{tap_on, question_on, gossip_on, put_front};
+ghost use Rattle.open_step.specs.Opening.{Opens};
+ghost use Rattle.answer.specs.Speech.{bytes_for, sayable};
+ghost use Rattle.answer.specs.Answer.{done_by, send_done, bad_on, other_done, kind_in, answer_by, answer_on, Answers};
+ghost use Rattle.answer.specs.Answer.{room_for, open_from, long_in};
+
+use book::{gossip_stop, open, question, send, tap_stop};
+use gossip_step::{GossipStop, take_gossip};
 use lent::BOOK;
 use open_step::Opening;
-use promise::Reply;
-use promise::UNSOUND;
-use replies::write_already;
-use replies::write_gossip_taken;
-use replies::write_refusal;
-use replies::write_taken;
-use replies::write_verdict;
-use replies::write_wait;
-use requests::read_open;
-use requests::read_send;
+use promise::{Reply, UNSOUND};
+use replies::{
+    write_already, write_gossip_taken, write_refusal, write_taken, write_verdict, write_wait,
+};
+use requests::{read_open, read_send};
 use soundness::sound;
-use tap_step::TapStop;
-use tap_step::take_tap;
-use wire::BAD;
-use wire::GOSSIP_TAKEN_BODY;
-use wire::HEAD;
-use wire::KIND_SIZE;
-use wire::QUESTION;
-use wire::REFUSAL_BODY;
-use wire::SHORT;
-use wire::Said;
-use wire::TAKEN_BODY;
-use wire::TAP;
-use wire::Written;
-use wire::room_of;
-ghost use Rattle·promise.specs.Spoken.{spoken};
-ghost use Rattle·wire.specs.Write.{Meets};
-ghost use Rattle·answer·specs.specs.Speech.{sayOn};
-ghost use mathlib.Core.Path.{_≡_};
-ghost use lib.Dec.{T};
-ghost use Rattle·promise.specs.Lent.{tapOn, questionOn, gossipOn, putFront};
-ghost use Rattle·open_step.specs.Opening.{Opens};
-ghost use Rattle·answer·specs.specs.Speech.{bytesFor, sayable};
-ghost use Rattle·answer·specs.specs.Answer.{doneBy, sendDone, badOn, otherDone, kindIn, answerBy, answerOn, Answers};
-ghost use Rattle·answer·specs.specs.Answer.{roomFor, openFrom, longIn};
+use tap_step::{TapStop, take_tap};
+use wire::{
+    BAD, GOSSIP_TAKEN_BODY, HEAD, KIND_SIZE, QUESTION, REFUSAL_BODY, SHORT, Said, TAKEN_BODY, TAP,
+    Written, room_of,
+};
 
 pub fn speak(reply: Reply, out: &mut [u8]) -> Written
-    ensures { λ r. ⌜ Meets (sayOn (spoken reply) (now (out .entry))) r (now (out .exit)) ⌝ }
+    ensures { Meets (say_on (spoken reply) out.old) result out.new }
 {
     match reply {
         Reply::Taken(stamp) => write_taken(stamp, out),
@@ -73,7 +54,7 @@ const REFUSAL_ROOM: usize = KIND_SIZE + REFUSAL_BODY;
 
 // The byte of kind, 0 where there is none.
 fn kind_of(msg: &[u8]) -> u8
-    ensures { λ r. ⌜ r ≡ kindIn (now (msg .entry)) ⌝ }
+    ensures { result ≡ kind_in msg.now }
 {
     if msg.len() == 0 {
         return 0;
@@ -82,7 +63,7 @@ fn kind_of(msg: &[u8]) -> u8
 }
 
 fn long_of(wrote: Written) -> usize
-    ensures { λ r. ⌜ r ≡ longIn wrote ⌝ }
+    ensures { result ≡ long_in wrote }
 {
     match wrote {
         Written::Wrote(n) => n,
@@ -92,9 +73,9 @@ fn long_of(wrote: Written) -> usize
 
 // A reply at the front of an output, and how long it is; 0 where the output is shorter, which then stays.
 fn put(reply: Reply, out: &mut [u8]) -> usize
-    requires { ⌜ T (sayable (spoken reply)) ⌝ }
-    ensures { λ r. ⌜ r ≡ longIn (putFront (bytesFor (spoken reply)) (now (out .entry)) .answer) ⌝ }
-    ensures { λ _. ⌜ now (out .exit) ≡ putFront (bytesFor (spoken reply)) (now (out .entry)) .bytes ⌝ }
+    requires { T (sayable (spoken reply)) }
+    ensures value { result ≡ long_in (put_front (bytes_for (spoken reply)) out.old).answer }
+    ensures out_after { out.new ≡ (put_front (bytes_for (spoken reply)) out.old).bytes }
 {
     let wrote = speak(reply, out);
     long_of(wrote)
@@ -102,9 +83,9 @@ fn put(reply: Reply, out: &mut [u8]) -> usize
 
 // What stops a tap is said; one that nothing stops is taken only where Taken has room.
 fn answer_tap(b: &mut [u64], msg: &[u8], out: &mut [u8]) -> usize
-    ensures { λ r. ⌜ Answers
-        (answerBy (doneBy (tapOn (now (b .entry)) (now (msg .entry)))) (now (b .entry)) (now (out .entry))) r
-        (now (b .exit)) (now (out .exit)) ⌝ }
+    ensures { Answers
+        (answer_by (done_by (tap_on b.old msg.now)) b.old out.old) result
+        b.new out.new }
 {
     let stop = tap_stop(b, msg);
     match stop {
@@ -120,9 +101,9 @@ fn answer_tap(b: &mut [u64], msg: &[u8], out: &mut [u8]) -> usize
 }
 
 fn answer_question(b: &[u64], msg: &[u8], out: &mut [u8]) -> usize
-    ensures { λ r. ⌜ Answers
-        (answerBy (doneBy (questionOn (now (b .entry)) (now (msg .entry)))) (now (b .entry)) (now (out .entry))) r
-        (now (b .entry)) (now (out .exit)) ⌝ }
+    ensures { Answers
+        (answer_by (done_by (question_on b.now msg.now)) b.now out.old) result
+        b.now out.new }
 {
     let reply = question(b, msg);
     put(reply, out)
@@ -130,9 +111,9 @@ fn answer_question(b: &[u64], msg: &[u8], out: &mut [u8]) -> usize
 
 // What stops a gossip is said; one that nothing stops is taken only where its reply has room.
 fn answer_gossip(b: &mut [u64], msg: &[u8], out: &mut [u8]) -> usize
-    ensures { λ r. ⌜ Answers
-        (answerBy (doneBy (gossipOn (now (b .entry)) (now (msg .entry)))) (now (b .entry)) (now (out .entry))) r
-        (now (b .exit)) (now (out .exit)) ⌝ }
+    ensures { Answers
+        (answer_by (done_by (gossip_on b.old msg.now)) b.old out.old) result
+        b.new out.new }
 {
     let stop = gossip_stop(b, msg);
     match stop {
@@ -154,8 +135,8 @@ fn answer_gossip(b: &mut [u64], msg: &[u8], out: &mut [u8]) -> usize
 }
 
 fn answer_send(b: &[u64], out: &mut [u8]) -> usize
-    ensures { λ r. ⌜ Answers (answerBy (sendDone (now (b .entry))) (now (b .entry)) (now (out .entry))) r
-        (now (b .entry)) (now (out .exit)) ⌝ }
+    ensures { Answers (answer_by (send_done b.now) b.now out.old) result
+        b.now out.new }
 {
     let wrote = send(b, out);
     match wrote {
@@ -170,8 +151,8 @@ fn answer_send(b: &[u64], out: &mut [u8]) -> usize
 }
 
 fn answer_bad(b: &[u64], out: &mut [u8]) -> usize
-    ensures { λ r. ⌜ Answers (answerBy (doneBy (badOn (now (b .entry)))) (now (b .entry)) (now (out .entry))) r
-        (now (b .entry)) (now (out .exit)) ⌝ }
+    ensures { Answers (answer_by (done_by (bad_on b.now)) b.now out.old) result
+        b.now out.new }
 {
     if !sound(b) {
         return put(Reply::Refused(UNSOUND), out);
@@ -181,9 +162,9 @@ fn answer_bad(b: &[u64], out: &mut [u8]) -> usize
 
 // Send, or bytes that are no request.
 fn answer_other(b: &[u64], msg: &[u8], out: &mut [u8]) -> usize
-    ensures { λ r. ⌜ Answers
-        (answerBy (otherDone (now (b .entry)) (now (msg .entry))) (now (b .entry)) (now (out .entry))) r
-        (now (b .entry)) (now (out .exit)) ⌝ }
+    ensures { Answers
+        (answer_by (other_done b.now msg.now) b.now out.old) result
+        b.now out.new }
 {
     let said = read_send(msg);
     let Said::Send = said else {
@@ -195,8 +176,8 @@ fn answer_other(b: &[u64], msg: &[u8], out: &mut [u8]) -> usize
 // The reply to one whole message of kind 1, 3, 4 or 12 at the front of out, and how long it is; 0 where out is shorter
 // than it.
 pub fn answer(b: &mut [u64], msg: &[u8], out: &mut [u8]) -> usize
-    ensures { λ r. ⌜ Answers (answerOn (now (b .entry)) (now (msg .entry)) (now (out .entry))) r (now (b .exit))
-        (now (out .exit)) ⌝ }
+    ensures { Answers (answer_on b.old msg.now out.old) result b.new
+        out.new }
 {
     let kind = kind_of(msg);
     match kind {
@@ -209,7 +190,7 @@ pub fn answer(b: &mut [u64], msg: &[u8], out: &mut [u8]) -> usize
 
 // How long the reply to a request is at most, by its byte of kind.
 pub fn reply_room(msg: &[u8]) -> usize
-    ensures { λ r. ⌜ r ≡ roomFor (now (msg .entry)) ⌝ }
+    ensures { result ≡ room_for msg.now }
 {
     let kind = kind_of(msg);
     let room = room_of(kind);
@@ -221,7 +202,7 @@ pub fn reply_room(msg: &[u8]) -> usize
 
 // Kind 11's bytes open the lent book.
 pub fn open_from(b: &mut [u64], msg: &[u8]) -> Opening
-    ensures { λ r. ⌜ Opens (openFrom (now (b .entry)) (now (msg .entry))) r (now (b .exit)) ⌝ }
+    ensures { Opens (open_from b.old msg.now) result b.new }
 {
     if b.len() != BOOK {
         return Opening::Refused(UNSOUND);

@@ -1,173 +1,173 @@
 -- The records of a message one by one: what each part holds, and one turn of each pass over them. Assumes nothing.
-use Prim.Native.Nat.{ℕ, suc, _+_, _-_, _*_, _≤_, _<_}
+use Prim.Native.Nat.{ℕ, suc, ◌+◌, ◌-◌, ◌*◌, ◌≤◌, ◌<◌}
 use native.Mathlib.Numerals.{add-one}
 use native.Mathlib.Omega.{arith}
-use mathlib.Core.Path.{_≡_, sym, ap, ap₂, subst, _∙_}
-use mathlib.Core.Logic.{_≢_}
+use mathlib.Core.Path.{◌≡◌, sym, ap, ap₂, subst, ◌∙◌}
+use mathlib.Core.Logic.{◌≢◌}
 use mathlib.Core.Bool.{true, false, not}
-use mathlib.Core.List.{List, [], _∷_, _++_, map, append-nil}
+use mathlib.Core.List.{List, [], ◌∷◌, ◌++◌, map, append-nil}
 use lib.Dec.{T, leb}
-use lib.ListN.{length, getD, take, drop, drop-of-length-le}
-use lib.Seq.{take-all, take-suc, drop-cons}
-use Rattle·limits.specs.Limits.{parts}
-use Rattle·lists.specs.TestLaws.{and-r, bit, is-true, keep-length}
-use Rattle·lists.specs.Order.{rising}
-use Rattle·lists.specs.Tests.{allBelow, every, keep}
-use Rattle·stamp.specs.Parts.{partsAt, listOf}
-use Rattle·stamp.specs.PartsLaws.{whole-stamp}
-use Rattle·stamp.specs.Stamp.{Stamp, part}
-use Rattle·stamp.specs.declared.Parts.{Parts}
-use Rattle·tally.specs.Tap.{FitsBits, tapFits, fields, wordOf}
-use Rattle·tally.specs.WordLaws.{fits-bits}
-use Rattle·tally.specs.declared.Tap.{Tap}
-use Rattle·ledger.specs.Log.{unknowns}
-use Rattle·ledger.specs.Record.{Record, place, isKnown}
-use Rattle·log.specs.Region.{stampLong}
-use Rattle·log.specs.Held.{climbed, climb, holdsAll, climb-holds}
-use Rattle·log_edit.specs.OrderLaws.{keep-append}
-use Rattle·wire.specs.Kinds.{Kind, recordKind, tapAt, headLong, recordLong}
-use Rattle·wire.specs.Laws.{lawful-record}
-use Rattle·wire.specs.Read.{lineOf, readable, readAs}
-use Rattle·wire.specs.ReadLaws.{told-line}
-use Rattle·wire.specs.declared.Said.{Said}
-use Rattle·wire.specs.declared.Said.the-variants as said
-use Rattle·message.specs.Find.{partAt}
-use Rattle·wire.specs.Head.{countIn}
-use Rattle·message.specs.Message.{recordsKind, recordParts, recordFrom, recordsIn, inOrder, wellFormed}
-use Rattle·message.specs.MessageLaws.{length-records, record-held}
-use Rattle·message.specs.Parts.{part-rules}
-use Rattle·message.specs.Told.{well-long, well-order}
-use Rattle·arrivals·specs.specs.Head.{Head, recordNo}
+use lib.ListN.{length, get_or, take, drop, drop_of_length-le}
+use lib.Seq.{take_all, take-suc, drop-cons}
+use Rattle.limits.specs.Limits.{parts}
+use Rattle.lists.specs.TestLaws.{and_r, bit, is_true, keep-length}
+use Rattle.lists.specs.Order.{rising}
+use Rattle.lists.specs.Tests.{all_below, every, keep}
+use Rattle.stamp.specs.Parts.{parts_at, list_of}
+use Rattle.stamp.specs.PartsLaws.{whole-stamp}
+use Rattle.stamp.specs.Stamp.{Stamp, part}
+use Rattle.stamp.specs.declared.Parts.{Parts}
+use Rattle.tally.specs.Tap.{FitsBits, tap_fits, fields, word_of}
+use Rattle.tally.specs.WordLaws.{fits_bits}
+use Rattle.tally.specs.declared.Tap.{Tap}
+use Rattle.ledger.specs.Log.{unknowns}
+use Rattle.ledger.specs.Record.{Record, place, is_known}
+use Rattle.log.specs.Region.{stamp_long}
+use Rattle.log.specs.Held.{climbed, climb, holds_all, climb-holds}
+use Rattle.log_edit.specs.OrderLaws.{keep_append}
+use Rattle.wire.specs.Kinds.{Kind, record_kind, tap_at, head_long, record_long}
+use Rattle.wire.specs.Laws.{lawful_record}
+use Rattle.wire.specs.Read.{line_of, readable, read_as}
+use Rattle.wire.specs.ReadLaws.{told_line}
+use Rattle.wire.specs.declared.Said.{Said}
+use Rattle.wire.specs.declared.Said.TheVariants as said
+use Rattle.message.specs.Find.{part_at}
+use Rattle.wire.specs.Head.{count_in}
+use Rattle.message.specs.Message.{records_kind, record_parts, record_from, records_in, in_order, well_formed}
+use Rattle.message.specs.MessageLaws.{length-records, record-held}
+use Rattle.message.specs.Parts.{part-rules}
+use Rattle.message.specs.Told.{well-long, well-order}
+use Rattle.arrivals.specs.Head.{Head, record_no}
 
 -- record i among all
-module _ (bytes : List ℕ) (w : T (wellFormed bytes)) (i : ℕ) (l : i < countIn bytes) where
-  at-place : getD (recordsIn bytes) i (recordFrom (recordsKind bytes) []) ≡ recordNo bytes i
-  unfolding recordNo
-  at-place = sym (record-held bytes w i l .1)
+module _ (bytes : List ℕ) (w : T (well_formed bytes)) (i : ℕ) (l : i < count_in bytes) where
+  at_place : get_or (records_in bytes) i (record_from (records_kind bytes) []) ≡ record_no bytes i
+  unfolding record_no
+  at_place = sym (record-held bytes w i l).1
 
-  inside : i < length (recordsIn bytes)
+  inside : i < length (records_in bytes)
   inside = omega (arith, length-records bytes)
 
-  next-in : drop i (recordsIn bytes) ≡ recordNo bytes i ∷ drop (i + 1) (recordsIn bytes)
-  next-in = rw (add-one, drop-cons (recordsIn bytes) i (recordFrom (recordsKind bytes) []) inside)
-      (ap (λ (r : Record). r ∷ drop (suc i) (recordsIn bytes)) at-place)
+  next_in : drop i (records_in bytes) ≡ record_no bytes i ∷ drop (i + 1) (records_in bytes)
+  next_in = rw (add-one, drop-cons (records_in bytes) i (record_from (records_kind bytes) []) inside)
+      (ap (λ (r : Record). r ∷ drop (suc i) (records_in bytes)) at_place)
 
-  last-in : take (suc i) (recordsIn bytes) ≡ take i (recordsIn bytes) ++ (recordNo bytes i ∷ [])
-  last-in = take-suc (recordsIn bytes) i (recordFrom (recordsKind bytes) []) inside
-      ∙ ap (λ (r : Record). take i (recordsIn bytes) ++ (r ∷ [])) at-place
+  last_in : take (suc i) (records_in bytes) ≡ take i (records_in bytes) ++ (record_no bytes i ∷ [])
+  last_in = take-suc (records_in bytes) i (record_from (records_kind bytes) []) inside
+      ∙ ap (λ (r : Record). take i (records_in bytes) ++ (r ∷ [])) at_place
 
 -- record i is a part that its reader says
-module _ (bytes : List ℕ) (n : ℕ) (m : Stamp) (h : Head bytes n m) (i : ℕ) (l : i < countIn bytes) where
-  pub part-inside : headLong + (i + 1) * recordLong ≤ length bytes
-  part-inside = omega (arith, well-long bytes (h .formed))
+module _ (bytes : List ℕ) (n : ℕ) (m : Stamp) (h : Head bytes n m) (i : ℕ) (l : i < count_in bytes) where
+  pub part_inside : head_long + (i + 1) * record_long ≤ length bytes
+  part_inside = omega (arith, well-long bytes h.formed)
 
-  kind-in : recordsKind bytes ≡ recordKind n m
-  kind-in = ap₂ recordKind (h .screens) (h .stamp)
+  kind_in_lem : records_kind bytes ≡ record_kind n m
+  kind_in_lem = ap₂ record_kind h.screens h.stamp
 
-  readable-at : T (readable (recordKind n m) (partAt i bytes))
-  readable-at = subst (λ (k : Kind). T (readable k (partAt i bytes))) kind-in (record-held bytes (h .formed) i l .0)
+  readable-at : T (readable (record_kind n m) (part_at i bytes))
+  readable-at = subst (λ (k : Kind). T (readable k (part_at i bytes))) kind_in_lem (record-held bytes h.formed i l).0
 
-  pub never-other :
-      (v : Said) → v ≡ readAs (recordKind n m) (partAt i bytes)
+  pub never_other :
+      (v : Said) → v ≡ read_as (record_kind n m) (part_at i bytes)
       → ((o q : ℕ) (p : Parts) (t : Tap) → v ≢ said.Record o q p t) → ⊥
-  unfolding readAs recordKind
-  never-other v read other =
-      let line = lineOf (recordKind n m) (partAt i bytes) in
-      let e : v ≡ said.Record (getD line 1 0) (getD line 2 0) (partsAt 3 line) (tapAt (3 + parts) line) = read
-      ∙ rw (is-true (readable (recordKind n m) (partAt i bytes)) readable-at) in
-      other (getD line 1 0) (getD line 2 0) (partsAt 3 line) (tapAt (3 + parts) line) e
+  unfolding read_as record_kind
+  never_other v read other =
+      let line = line_of (record_kind n m) (part_at i bytes) in
+      let e : v ≡ said.Record (get_or line 1 0) (get_or line 2 0) (parts_at 3 line) (tap_at (3 + parts) line) = read
+      ∙ rw (is_true (readable (record_kind n m) (part_at i bytes)) readable-at) in
+      other (get_or line 1 0) (get_or line 2 0) (parts_at 3 line) (tap_at (3 + parts) line) e
 
-  module _ (o q : ℕ) (p : Parts) (t : Tap) (read : said.Record o q p t ≡ readAs (recordKind n m) (partAt i bytes)) where
-    line-at : lineOf (recordKind n m) (partAt i bytes) ≡ 2 ∷ o ∷ q ∷ listOf p ++ fields t
-    line-at = told-line (recordKind n m) (partAt i bytes) (said.Record o q p t) read (lawful-record n m) (omega arith)
+  module _ (o q : ℕ) (p : Parts) (t : Tap) (read : said.Record o q p t ≡ read_as (record_kind n m) (part_at i bytes)) where
+    line_at : line_of (record_kind n m) (part_at i bytes) ≡ 2 ∷ o ∷ q ∷ list_of p ++ fields t
+    line_at = told_line (record_kind n m) (part_at i bytes) (said.Record o q p t) read (lawful_record n m) (omega arith)
 
     pub tap-bits : FitsBits t
-    unfolding listOf
-    tap-bits = fits-bits t (subst (λ (line : List ℕ). T (tapFits (tapAt (3 + parts) line))) line-at
-        (part-rules n m (partAt i bytes) readable-at .0))
+    unfolding list_of
+    tap-bits = fits_bits t (subst (λ (line : List ℕ). T (tap_fits (tap_at (3 + parts) line))) line_at
+        (part-rules n m (part_at i bytes) readable-at).0)
 
-    pub record-read : record { origin = o; number = q; label = listOf p; body = wordOf t } ≡ recordNo bytes i
-    unfolding recordNo recordFrom listOf partsAt
-    record-read = rw (kind-in, line-at)
+    pub record-read : record { origin = o; number = q; label = list_of p; body = word_of t } ≡ record_no bytes i
+    unfolding record_no record_from list_of parts_at
+    record-read = rw (kind_in_lem, line_at)
 
 -- one turn of the survey, with record i at hand as r
-module _ (bytes : List ℕ) (w : T (wellFormed bytes)) (i : ℕ) (l : i < countIn bytes) (r : Record)
-    (e : r ≡ recordNo bytes i) where
-  next : drop i (recordsIn bytes) ≡ r ∷ drop (i + 1) (recordsIn bytes)
-  next = next-in bytes w i l ∙ ap (λ (x : Record). x ∷ drop (i + 1) (recordsIn bytes)) (sym e)
+module _ (bytes : List ℕ) (w : T (well_formed bytes)) (i : ℕ) (l : i < count_in bytes) (r : Record)
+    (e : r ≡ record_no bytes i) where
+  next : drop i (records_in bytes) ≡ r ∷ drop (i + 1) (records_in bytes)
+  next = next_in bytes w i l ∙ ap (λ (x : Record). x ∷ drop (i + 1) (records_in bytes)) (sym e)
 
   pub climb-more : (s : Stamp)
-      → climb s (drop i (recordsIn bytes)) ≡ climb (climbed s r) (drop (i + 1) (recordsIn bytes))
+      → climb s (drop i (records_in bytes)) ≡ climb (climbed s r) (drop (i + 1) (records_in bytes))
   unfolding climb
   climb-more s = ap (climb s) next
 
-  pub new-more : (known : Stamp) (c b : ℕ) → b ≡ bit (not (isKnown known r))
-      → c + length (unknowns known (drop i (recordsIn bytes)))
-      ≡ c + b + length (unknowns known (drop (i + 1) (recordsIn bytes)))
+  pub new-more : (known : Stamp) (c b : ℕ) → b ≡ bit (not (is_known known r))
+      → c + length (unknowns known (drop i (records_in bytes)))
+      ≡ c + b + length (unknowns known (drop (i + 1) (records_in bytes)))
   unfolding unknowns
   new-more known c b f =
       omega (
         arith,
         ap (λ (rs : List Record). length (unknowns known rs)) next,
-        keep-length (λ x. not (isKnown known x)) r (drop (i + 1) (recordsIn bytes)),
+        keep-length (λ x. not (is_known known x)) r (drop (i + 1) (records_in bytes)),
       )
 
-module _ (bytes : List ℕ) (i : ℕ) (l : countIn bytes ≤ i) where
-  past : drop i (recordsIn bytes) ≡ []
-  past = let e : length (recordsIn bytes) ≤ i = omega (arith, length-records bytes) in
-      drop-of-length-le (recordsIn bytes) e
+module _ (bytes : List ℕ) (i : ℕ) (l : count_in bytes ≤ i) where
+  past : drop i (records_in bytes) ≡ []
+  past = let e : length (records_in bytes) ≤ i = omega (arith, length-records bytes) in
+      drop_of_length-le (records_in bytes) e
 
-  pub climb-end : (s : Stamp) → climb s (drop i (recordsIn bytes)) ≡ s
+  pub climb-end : (s : Stamp) → climb s (drop i (records_in bytes)) ≡ s
   unfolding climb
   climb-end s = ap (climb s) past
 
-  pub new-end : (known : Stamp) (c : ℕ) → c + length (unknowns known (drop i (recordsIn bytes))) ≡ c
+  pub new-end : (known : Stamp) (c : ℕ) → c + length (unknowns known (drop i (records_in bytes))) ≡ c
   unfolding unknowns
   new-end known c = ap (λ (rs : List Record). c + length (unknowns known rs)) past ∙ omega arith
 
 -- one turn of the merge, with the last of the first k records at hand as r
-pub all-left : (bytes : List ℕ) (known : Stamp) (k : ℕ) → countIn bytes ≡ k
-    → unknowns known (take k (recordsIn bytes)) ≡ unknowns known (recordsIn bytes)
-all-left bytes known k e =
-    let h : length (recordsIn bytes) ≤ k = omega (arith, length-records bytes) in
-    ap (unknowns known) (take-all k (recordsIn bytes) h)
+pub all_left : (bytes : List ℕ) (known : Stamp) (k : ℕ) → count_in bytes ≡ k
+    → unknowns known (take k (records_in bytes)) ≡ unknowns known (records_in bytes)
+all_left bytes known k e =
+    let h : length (records_in bytes) ≤ k = omega (arith, length-records bytes) in
+    ap (unknowns known) (take_all k (records_in bytes) h)
 
-pub none-left : (bytes : List ℕ) (known : Stamp) (k : ℕ) → k ≤ 0 → unknowns known (take k (recordsIn bytes)) ≡ []
+pub none_left : (bytes : List ℕ) (known : Stamp) (k : ℕ) → k ≤ 0 → unknowns known (take k (records_in bytes)) ≡ []
 unfolding unknowns
-none-left bytes known k h = let e : k ≡ 0 = omega arith in rw e
+none_left bytes known k h = let e : k ≡ 0 = omega arith in rw e
 
-module _ (bytes : List ℕ) (w : T (wellFormed bytes)) (k : ℕ) (some : 0 < k) (l : k ≤ countIn bytes) (r : Record)
-    (e : r ≡ recordNo bytes (k - 1)) (known : Stamp) where
-  split : unknowns known (take k (recordsIn bytes)) ≡ unknowns known (take (k - 1) (recordsIn bytes))
+module _ (bytes : List ℕ) (w : T (well_formed bytes)) (k : ℕ) (some : 0 < k) (l : k ≤ count_in bytes) (r : Record)
+    (e : r ≡ record_no bytes (k - 1)) (known : Stamp) where
+  split : unknowns known (take k (records_in bytes)) ≡ unknowns known (take (k - 1) (records_in bytes))
       ++ unknowns known (r ∷ [])
   unfolding unknowns
   split =
       let back : k ≡ suc (k - 1) = omega arith in
-      let f : take k (recordsIn bytes) ≡ take (k - 1) (recordsIn bytes) ++ (r ∷ []) =
-      ap (λ (j : ℕ). take j (recordsIn bytes)) back ∙ last-in bytes w (k - 1) (omega arith)
-      ∙ ap (λ (x : Record). take (k - 1) (recordsIn bytes) ++ (x ∷ [])) (sym e) in
-      ap (keep (λ x. not (isKnown known x))) f
-      ∙ keep-append (λ x. not (isKnown known x)) (take (k - 1) (recordsIn bytes)) (r ∷ [])
+      let f : take k (records_in bytes) ≡ take (k - 1) (records_in bytes) ++ (r ∷ []) =
+      ap (λ (j : ℕ). take j (records_in bytes)) back ∙ last_in bytes w (k - 1) (omega arith)
+      ∙ ap (λ (x : Record). take (k - 1) (records_in bytes) ++ (x ∷ [])) (sym e) in
+      ap (keep (λ x. not (is_known known x))) f
+      ∙ keep_append (λ x. not (is_known known x)) (take (k - 1) (records_in bytes)) (r ∷ [])
 
-  pub skip-known : isKnown known r ≡ true
-      → unknowns known (take k (recordsIn bytes)) ≡ unknowns known (take (k - 1) (recordsIn bytes))
+  pub skip-known : is_known known r ≡ true
+      → unknowns known (take k (records_in bytes)) ≡ unknowns known (take (k - 1) (records_in bytes))
   unfolding unknowns
-  skip-known t = split ∙ rw t (append-nil (unknowns known (take (k - 1) (recordsIn bytes))))
+  skip-known t = split ∙ rw t (append-nil (unknowns known (take (k - 1) (records_in bytes))))
 
-  pub last-new : isKnown known r ≡ false
-      → unknowns known (take k (recordsIn bytes)) ≡ unknowns known (take (k - 1) (recordsIn bytes)) ++ (r ∷ [])
+  pub last-new : is_known known r ≡ false
+      → unknowns known (take k (records_in bytes)) ≡ unknowns known (take (k - 1) (records_in bytes)) ++ (r ∷ [])
   unfolding unknowns
   last-new t = split ∙ rw t
 
 -- no number is missing: the climb from a copy of the known stamp reaches m
 pub look-whole :
-    (bytes : List ℕ) → T (wellFormed bytes) → (n : ℕ) (known m s reached : Stamp)
-    → (length known ≡ stampLong) × (n ≤ stampLong) → s ≡ m
-    → reached ≡ climb (listOf (partsAt 0 known)) (recordsIn bytes)
-    → allBelow n (λ k. leb (part s k) (part reached k)) ≡ holdsAll n known m (recordsIn bytes)
-unfolding inOrder recordsIn
+    (bytes : List ℕ) → T (well_formed bytes) → (n : ℕ) (known m s reached : Stamp)
+    → (length known ≡ stamp_long) × (n ≤ stamp_long) → s ≡ m
+    → reached ≡ climb (list_of (parts_at 0 known)) (records_in bytes)
+    → all_below n (λ k. leb (part s k) (part reached k)) ≡ holds_all n known m (records_in bytes)
+unfolding in_order records_in
 look-whole bytes w n known m s reached h e f =
-    let order = and-r (every (readable (recordsKind bytes)) (recordParts bytes))
-    (rising place (map (recordFrom (recordsKind bytes)) (recordParts bytes))) (well-order bytes w) in
-    rw (e, f, whole-stamp known (h .0))
-    (sym (climb-holds n known m (recordsIn bytes) order (omega (arith, h .0, h .1))))
+    let order = and_r (every (readable (records_kind bytes)) (record_parts bytes))
+    (rising place (map (record_from (records_kind bytes)) (record_parts bytes))) (well-order bytes w) in
+    rw (e, f, whole-stamp known h.0)
+    (sym (climb-holds n known m (records_in bytes) order (omega (arith, h.0, h.1))))

@@ -1,37 +1,29 @@
 // The records of a gossip message as rows of the log: read one by one, surveyed in one pass, merged into the log's
 // region.
-use log::ROW;
-use log::climb_row;
-use log::first_at_most;
-use log::is_known;
-use log::make_row;
+ghost use Rattle.std.specs.Prelude.{◌≡◌, not, ◌+◌, ◌*◌, ◌≤◌, ◌<◌, length};
+ghost use Rattle.lists.specs.TestLaws.{bit};
+ghost use Rattle.stamp.specs.Parts.{list_of};
+ghost use Rattle.ledger.specs.Log.{unknowns};
+ghost use Rattle.ledger.specs.Record.{is_known};
+ghost use Rattle.log.specs.Region.{row_long, stamp_long, record_at, records_at};
+ghost use Rattle.log.specs.Held.{climb, holds_all};
+ghost use Rattle.log_edit.specs.Merge.{Fresh, merged};
+ghost use Rattle.wire.specs.Head.{count_in};
+ghost use Rattle.message.specs.Message.{records_in};
+ghost use Rattle.arrivals.specs.Head.{Head, record_no};
+
+use log::{ROW, climb_row, first_at_most, is_known, make_row};
 use log_edit::slide_in;
 use message::record_at;
-use stamp::Parts;
-use stamp::list_of;
-use stamp::parts_at;
+use stamp::{Parts, list_of, parts_at};
 use tally::pack;
 use wire::Said;
-ghost use mathlib.Core.Path.{_≡_};
-ghost use mathlib.Core.Bool.{not};
-ghost use Prim.Native.Nat.{_+_, _*_, _≤_, _<_};
-ghost use lib.ListN.{length};
-ghost use Rattle·lists.specs.TestLaws.{bit};
-ghost use Rattle·stamp.specs.Parts.{listOf};
-ghost use Rattle·ledger.specs.Log.{unknowns};
-ghost use Rattle·ledger.specs.Record.{isKnown};
-ghost use Rattle·log.specs.Region.{rowLong, stampLong, recordAt, recordsAt};
-ghost use Rattle·log.specs.Held.{climb, holdsAll};
-ghost use Rattle·log_edit.specs.Merge.{Fresh, merged};
-ghost use Rattle·wire.specs.Head.{countIn};
-ghost use Rattle·message.specs.Message.{recordsIn};
-ghost use Rattle·arrivals·specs.specs.Head.{Head, recordNo};
 
 // The row of record i. The head has n screens and stamp m.
 fn row_for(msg: &[u8], i: usize, n: usize, m: Parts) -> [u64; ROW]
-    requires { ⌜ Head (now msg) n (listOf m) ⌝ }
-    requires { ⌜ i < countIn (now msg) ⌝ }
-    ensures { λ r. ⌜ recordAt r ≡ recordNo (now (msg .entry)) i ⌝ }
+    requires head { Head msg.now n (list_of m) }
+    requires i_bound { i < count_in msg.now }
+    ensures { record_at result ≡ record_no msg.now i }
 {
     let next = record_at(msg, i, n, m);
     let Said::Record {
@@ -48,8 +40,8 @@ fn row_for(msg: &[u8], i: usize, n: usize, m: Parts) -> [u64; ROW]
 
 // One if a row's record is not known under a stamp, and else zero.
 fn one_new(row: &[u64], known: &[u64]) -> usize
-    requires { ⌜ length (now row) ≡ rowLong ⌝ }
-    ensures { λ r. ⌜ (r ≡ bit (not (isKnown (now (known .entry)) (recordAt (now (row .entry)))))) × (r ≤ 1) ⌝ }
+    requires { length row.now ≡ row_long }
+    ensures { (result ≡ bit (not (is_known known.now (record_at row.now)))) × (result ≤ 1) }
 {
     if is_known(row, known) { 0 } else { 1 }
 }
@@ -57,11 +49,11 @@ fn one_new(row: &[u64], known: &[u64]) -> usize
 // One pass over the records: how far the numbers of each origin go without a gap from those reached, written over them.
 // Gives how many records are not known under a stamp.
 fn survey(msg: &[u8], count: usize, n: usize, m: Parts, known: &[u64], reached: &mut [u64]) -> usize
-    requires { ⌜ Head (now msg) n (listOf m) ⌝ }
-    requires { ⌜ countIn (now msg) ≡ count ⌝ }
-    ensures { λ _. ⌜ (now (reached .exit) ≡ climb (now (reached .entry)) (recordsIn (now (msg .entry))))
-        × (length (now (reached .exit)) ≡ length (now (reached .entry))) ⌝ }
-    ensures { λ r. ⌜ (r ≡ length (unknowns (now (known .entry)) (recordsIn (now (msg .entry))))) × (r ≤ count) ⌝ }
+    requires head { Head msg.now n (list_of m) }
+    requires msg_value { count_in msg.now ≡ count }
+    ensures reached_after { (reached.new ≡ climb reached.old (records_in msg.now))
+        × (length reached.new ≡ length reached.old) }
+    ensures value { (result ≡ length (unknowns known.now (records_in msg.now))) × (result ≤ count) }
 {
     let mut new = 0;
     let mut i = 0;
@@ -75,6 +67,7 @@ fn survey(msg: &[u8], count: usize, n: usize, m: Parts, known: &[u64], reached: 
 }
 
 // What the records come to under a known stamp: whether each that m counts is known or there, and how many are new.
+#[derive(Drop)]
 pub struct Look {
     pub whole: bool,
     pub new: usize,
@@ -82,12 +75,12 @@ pub struct Look {
 
 // The records looked at for a house of n screens.
 pub fn look_at(msg: &[u8], count: usize, n: usize, m: Parts, known: &[u64]) -> Look
-    requires { ⌜ Head (now msg) n (listOf m) ⌝ }
-    requires { ⌜ countIn (now msg) ≡ count ⌝ }
-    requires { ⌜ (length (now known) ≡ stampLong) × (n ≤ stampLong) ⌝ }
-    ensures { λ r. ⌜ r .whole ≡ holdsAll n (now (known .entry)) (listOf m) (recordsIn (now (msg .entry))) ⌝ }
-    ensures { λ r. ⌜ (r .new ≡ length (unknowns (now (known .entry)) (recordsIn (now (msg .entry)))))
-        × (r .new ≤ count) ⌝ }
+    requires head { Head msg.now n (list_of m) }
+    requires msg_value { count_in msg.now ≡ count }
+    requires known_len { (length known.now ≡ stamp_long) × (n ≤ stamp_long) }
+    ensures whole_value { result.whole ≡ holds_all n known.now (list_of m) (records_in msg.now) }
+    ensures result_after { (result.new ≡ length (unknowns known.now (records_in msg.now)))
+        × (result.new ≤ count) }
 {
     let mut reached = list_of(parts_at(known, 0));
     let new = survey(msg, count, n, m, known, &mut reached);
@@ -111,13 +104,13 @@ pub fn merge_new(
     m: Parts,
     known: &[u64],
 )
-    requires { ⌜ Head (now msg) n (listOf m) ⌝ }
-    requires { ⌜ countIn (now msg) ≡ count ⌝ }
-    requires { ⌜ (new ≡ length (unknowns (now known) (recordsIn (now msg))))
-        × ((logged + new) * rowLong ≤ length (now r)) ⌝ }
-    requires { ⌜ Fresh (unknowns (now known) (recordsIn (now msg))) (recordsAt logged (now r)) ⌝ }
-    ensures { λ _. ⌜ now (r .exit)
-        ≡ merged (unknowns (now (known .entry)) (recordsIn (now (msg .entry)))) logged new (now (r .entry)) ⌝ }
+    requires head { Head msg.now n (list_of m) }
+    requires msg_value { count_in msg.now ≡ count }
+    requires value { (new ≡ length (unknowns known.now (records_in msg.now)))
+        × ((logged + new) * row_long ≤ length r.old) }
+    requires fresh { Fresh (unknowns known.now (records_in msg.now)) (records_at logged r.old) }
+    ensures { r.new
+        ≡ merged (unknowns known.now (records_in msg.now)) logged new r.old }
 {
     let mut i = logged;
     let mut gap = new;

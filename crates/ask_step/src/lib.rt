@@ -1,35 +1,25 @@
 // A question put to a sound book: refused, told to wait, or answered. The book doesn't change.
-use lent::known_of;
-use lent::screen_of;
-use lent::standing_of;
-use lent::value_of;
-use promise::Reply;
-use promise::UNKNOWN_LABEL;
-use stamp::Parts;
-use stamp::at_most;
-use stamp::lacking;
-use stamp::list_of;
-use stamp::part_at;
-use stamp::part_of;
+ghost use Rattle.std.specs.Prelude.{◌≡◌, ◌-◌, ◌<◌, T, ltb};
+ghost use Rattle.limits.specs.Limits.{prompt_count};
+ghost use Rattle.stamp.specs.Parts.{list_of};
+ghost use Rattle.stamp.specs.Stamp.{part, stamp_fits};
+ghost use Rattle.meaning.specs.Book.{known};
+ghost use Rattle.meaning.specs.Step.{ask};
+ghost use Rattle.lent.specs.Held.{Held};
+ghost use Rattle.lent.specs.Words.{book_of, lawful};
+ghost use Rattle.promise.specs.Spoken.{spoken};
+
+use lent::{known_of, screen_of, standing_of, value_of};
+use promise::{Reply, UNKNOWN_LABEL};
+use stamp::{Parts, at_most, lacking, list_of, part_at, part_of};
 use tally::verdict_of;
-ghost use mathlib.Core.Path.{_≡_};
-ghost use Prim.Native.Nat.{_-_, _<_};
-ghost use lib.Dec.{T, ltb};
-ghost use Rattle·limits.specs.Limits.{promptCount};
-ghost use Rattle·stamp.specs.Parts.{listOf};
-ghost use Rattle·stamp.specs.Stamp.{part, stampFits};
-ghost use Rattle·meaning.specs.Book.{known};
-ghost use Rattle·meaning.specs.Step.{ask};
-ghost use Rattle·lent.specs.Held.{Held};
-ghost use Rattle·lent.specs.Words.{bookOf, lawful};
-ghost use Rattle·promise.specs.Spoken.{spoken};
 
 // Whether the label's part i exceeds the known stamp's.
 pub fn label_unknown(b: &[u64], label: Parts) -> bool
-    requires { ⌜ Held (now b) ⌝ }
-    requires { ⌜ (bookOf (now b)) .me < (bookOf (now b)) .screens ⌝ }
-    ensures { λ r. ⌜ r ≡ ltb (part (known (bookOf (now (b .entry)))) ((bookOf (now (b .entry))) .me))
-        (part (listOf label) ((bookOf (now (b .entry))) .me)) ⌝ }
+    requires held { Held b.now }
+    requires b_bound { (book_of b.now).me < (book_of b.now).screens }
+    ensures { result ≡ ltb (part (known (book_of b.now)) (book_of b.now).me)
+        (part (list_of label) (book_of b.now).me) }
 {
     let i = screen_of(b);
     let s = known_of(b);
@@ -38,10 +28,10 @@ pub fn label_unknown(b: &[u64], label: Parts) -> bool
 
 // A question on a prompt, at a label.
 pub fn ask_book(b: &[u64], prompt: u64, label: Parts) -> Reply
-    requires { ⌜ T (lawful (now b)) ⌝ }
-    requires { ⌜ prompt < promptCount ⌝ }
-    requires { ⌜ T (stampFits ((bookOf (now b)) .screens) (listOf label)) ⌝ }
-    ensures { λ r. ⌜ spoken r ≡ (ask (bookOf (now (b .entry))) prompt (listOf label)) .reply ⌝ }
+    requires t { T (lawful b.now) }
+    requires prompt_lt_prompt_count { prompt < prompt_count }
+    requires t_2 { T (stamp_fits (book_of b.now).screens (list_of label)) }
+    ensures { spoken result ≡ (ask (book_of b.now) prompt (list_of label)).reply }
 {
     if label_unknown(b, label) {
         return Reply::Refused(UNKNOWN_LABEL);

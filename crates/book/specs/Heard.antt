@@ -1,287 +1,287 @@
 -- Laws: what an entry owes once it knows whether the lent book is sound and whether the bytes are read. Assumes
 -- nothing.
---     owes-unsound   refusal 11, and nothing is altered
---     owes-unread    refusal 1, and nothing is altered
+--     owes_unsound   refusal 11, and nothing is altered
+--     owes_unread    refusal 1, and nothing is altered
 --     owes-step      what the step on the book that the slice holds gives
-use Prim.Native.Nat.{ℕ, _<_}
-use native.Mathlib.Omega.{arith}
-use mathlib.Core.Path.{_≡_, refl, sym, ap, ap₂, subst, _∙_}
-use mathlib.Core.Bool.{Bool, true, false, _&&_, cond}
-use mathlib.Core.List.{List, _∷_}
-use mathlib.Core.Option.{Option, none, some, Option·some-ne-none}
-use lib.Dec.{T, ltb, ltb→lt}
-use lib.ListN.{getD}
-use Rattle·lists.specs.TestLaws.{and-l, and-r, is-true}
-use Rattle·lists.specs.Tests.{firstOf}
-use Rattle·limits.specs.Limits.{promptCount}
-use Rattle·stamp.specs.Parts.{partsAt, listOf}
-use Rattle·stamp.specs.Stamp.{stampFits}
-use Rattle·stamp.specs.declared.Parts.{Parts}
-use Rattle·tally.specs.Tap.{tapFits}
-use Rattle·tally.specs.declared.Tap.{Tap}
-use Rattle·wire.specs.Kinds.{shaped, tapAt, stampAt, tapKind, questionKind}
-use Rattle·wire.specs.Read.{lineOf, readable, readAs}
-use Rattle·wire.specs.ReadLaws.{told}
-use Rattle·wire.specs.Write.{Output, Meets, refuse}
-use Rattle·wire.specs.declared.Said.the-variants as said
-use Rattle·wire.specs.declared.Written.{Written}
-use Rattle·wire.specs.declared.Written.the-variants.{Refused}
-use Rattle·wire.specs.Head.{headLine}
-use Rattle·message.specs.Message.{wellFormed, messageOf, readGossip, messageBytes}
-use Rattle·message.specs.Told.{gossip-told, head-in}
-use Rattle·tap_step.specs.Stop.{StopsTap}
-use Rattle·tap_step.specs.declared.TapStop.{TapStop}
-use Rattle·tap_step.specs.declared.TapStop.the-variants as tapped
-use Rattle·gossip_step.specs.Heard.{Heard}
-use Rattle·gossip_step.specs.Stop.{StopsGossip}
-use Rattle·gossip_step.specs.declared.GossipStop.{GossipStop}
-use Rattle·gossip_step.specs.declared.GossipStop.the-variants as gossiped
-use Rattle·meaning.specs.AnswerLaws.{ask-keeps}
-use Rattle·meaning.specs.Reply.{Reply, refusal}
-use Rattle·meaning.specs.Step.{Outcome, tapStops, tapStep, ask, send, gossipStops, gossipStep}
-use Rattle·lent.specs.SoundWords.{lawful-held}
-use Rattle·lent.specs.Words.{bookOf, wordsOf, lawful}
-use Rattle·promise.specs.Lent.{Lent, Promise, onBook, heard, stopOn, tapOn, tapStop, questionOn, gossipOn, gossipStop}
-use Rattle·promise.specs.Lent.{putFront, sendOn}
-use Rattle·promise.specs.LentLaws.{lentOf}
-use Rattle·promise.specs.Spoken.{spoken}
-use Rattle·promise.specs.declared.Reply as answer
-use Rattle·promise.specs.declared.Reply.the-variants as says
-use Rattle·book·specs.specs.Stop.{TapStopOn, GossipStopOn}
+use Prim.Native.Nat.{ℕ, ◌<◌}
+use Rattle.std.proofs.Common.{arith, ap₂, ◌∙◌, ltb→lt}
+use Rattle.std.specs.Prelude.{◌≡◌, refl, Bool, true, false, ◌&&◌, cond, ltb}
+use Rattle.std.proofs.Math.Path.{sym, ap, subst}
+use mathlib.Core.List.{List, ◌∷◌}
+use Rattle.std.proofs.Math.Option.{Option, none, some, some-ne-none}
+use Rattle.std.proofs.Math.Dec.{T}
+use Rattle.std.proofs.Math.ListN.{get_or}
+use Rattle.lists.specs.TestLaws.{and_l, and_r, is_true}
+use Rattle.lists.specs.Tests.{first_of}
+use Rattle.limits.specs.Limits.{prompt_count}
+use Rattle.stamp.specs.Parts.{parts_at, list_of}
+use Rattle.stamp.specs.Stamp.{stamp_fits}
+use Rattle.stamp.specs.declared.Parts.{Parts}
+use Rattle.tally.specs.Tap.{tap_fits}
+use Rattle.tally.specs.declared.Tap.{Tap}
+use Rattle.wire.specs.Kinds.{shaped, tap_at, stamp_at, tap_kind, question_kind}
+use Rattle.wire.specs.Read.{line_of, readable, read_as}
+use Rattle.wire.specs.ReadLaws.{told}
+use Rattle.wire.specs.Write.{Output, Meets, refuse}
+use Rattle.wire.specs.declared.Said.TheVariants as said
+use Rattle.wire.specs.declared.Written.{Written}
+use Rattle.wire.specs.declared.Written.TheVariants.{Refused}
+use Rattle.wire.specs.Head.{head_line}
+use Rattle.message.specs.Message.{well_formed, message_of, read_gossip, message_bytes}
+use Rattle.message.specs.Told.{gossip-told, head_in}
+use Rattle.tap_step.specs.Stop.{StopsTap}
+use Rattle.tap_step.specs.declared.TapStop.{TapStop}
+use Rattle.tap_step.specs.declared.TapStop.TheVariants as tapped
+use Rattle.gossip_step.specs.Heard.{Heard}
+use Rattle.gossip_step.specs.Stop.{StopsGossip}
+use Rattle.gossip_step.specs.declared.GossipStop.{GossipStop}
+use Rattle.gossip_step.specs.declared.GossipStop.TheVariants as gossiped
+use Rattle.meaning.specs.AnswerLaws.{ask-keeps}
+use Rattle.meaning.specs.Reply.{Reply, refusal}
+use Rattle.meaning.specs.Step.{Outcome, tap_stops, tap_step, ask, send, gossip_stops, gossip_step}
+use Rattle.lent.specs.SoundWords.{lawful-held}
+use Rattle.lent.specs.Words.{book_of, words_of, lawful}
+use Rattle.promise.specs.Lent.{Lent, Promise, on_book, heard, stop_on, tap_on, tap_stop, question_on, gossip_on, gossip_stop}
+use Rattle.promise.specs.Lent.{put_front, send_on}
+use Rattle.promise.specs.LentLaws.{lent_of}
+use Rattle.promise.specs.Spoken.{spoken}
+use Rattle.promise.specs.declared.Reply as answer
+use Rattle.promise.specs.declared.Reply.TheVariants as says
+use Rattle.book.specs.Stop.{TapStopOn, GossipStopOn}
 
 module _ (ws : List ℕ) where
-  pub owes-unsound : lawful ws ≡ false → (o : Outcome) → Promise (onBook ws o) (says.Refused 11) ws
-  owes-unsound e o = subst (λ (l : Lent). Promise l (says.Refused 11) ws)
-      (ap (λ (c : Bool). cond c (lentOf o) (record { reply = refusal 11; words = ws })) (sym e))
+  pub owes_unsound : lawful ws ≡ false → (o : Outcome) → Promise (on_book ws o) (says.Refused 11) ws
+  owes_unsound e o = subst (λ (l : Lent). Promise l (says.Refused 11) ws)
+      (ap (λ (c : Bool). cond c (lent_of o) (record { reply = refusal 11; words = ws })) (sym e))
       (record { answers = refl; leaves = refl })
 
-  pub stop-unsound : lawful ws ≡ false → (c : Bool) (stop : Option Reply)
-      → stopOn (lawful ws) c stop ≡ some (refusal 11)
-  stop-unsound e c stop = ap (λ (d : Bool). cond d (cond c stop (some (refusal 1))) (some (refusal 11))) e
+  pub stop_unsound : lawful ws ≡ false → (c : Bool) (stop : Option Reply)
+      → stop_on (lawful ws) c stop ≡ some (refusal 11)
+  stop_unsound e c stop = ap (λ (d : Bool). cond d (cond c stop (some (refusal 1))) (some (refusal 11))) e
 
   module _ (e : lawful ws ≡ true) where
-    on-sound : (o : Outcome) → onBook ws o ≡ lentOf o
-    on-sound o = ap (λ (c : Bool). cond c (lentOf o) (record { reply = refusal 11; words = ws })) e
+    on-sound : (o : Outcome) → on_book ws o ≡ lent_of o
+    on-sound o = ap (λ (c : Bool). cond c (lent_of o) (record { reply = refusal 11; words = ws })) e
 
-    stop-sound : (c : Bool) (stop : Option Reply) → stopOn (lawful ws) c stop ≡ cond c stop (some (refusal 1))
+    stop-sound : (c : Bool) (stop : Option Reply) → stop_on (lawful ws) c stop ≡ cond c stop (some (refusal 1))
     stop-sound c stop = ap (λ (d : Bool). cond d (cond c stop (some (refusal 1))) (some (refusal 11))) e
 
-    pub stop-unread : (c : Bool) → c ≡ false → (stop : Option Reply) → stopOn (lawful ws) c stop ≡ some (refusal 1)
-    stop-unread c f stop = stop-sound c stop ∙ ap (λ (d : Bool). cond d stop (some (refusal 1))) f
+    pub stop_unread : (c : Bool) → c ≡ false → (stop : Option Reply) → stop_on (lawful ws) c stop ≡ some (refusal 1)
+    stop_unread c f stop = stop-sound c stop ∙ ap (λ (d : Bool). cond d stop (some (refusal 1))) f
 
-    pub stop-read : (c : Bool) → T c → (stop : Option Reply) → stopOn (lawful ws) c stop ≡ stop
-    stop-read c t stop = stop-sound c stop ∙ ap (λ (d : Bool). cond d stop (some (refusal 1))) (is-true c t)
+    pub stop-read : (c : Bool) → T c → (stop : Option Reply) → stop_on (lawful ws) c stop ≡ stop
+    stop-read c t stop = stop-sound c stop ∙ ap (λ (d : Bool). cond d stop (some (refusal 1))) (is_true c t)
 
-    pub owes-unread : (c : Bool) → c ≡ false → (o : Outcome)
-        → Promise (onBook ws (heard c (bookOf ws) o)) (says.Refused 1) ws
-    owes-unread c f o =
-        let q : onBook ws (heard c (bookOf ws) o)
-        ≡ lentOf (record { reply = refusal 1; book = bookOf ws }) = on-sound (heard c (bookOf ws) o)
-        ∙ ap (λ (d : Bool). lentOf (heard d (bookOf ws) o)) f in
+    pub owes_unread : (c : Bool) → c ≡ false → (o : Outcome)
+        → Promise (on_book ws (heard c (book_of ws) o)) (says.Refused 1) ws
+    owes_unread c f o =
+        let q : on_book ws (heard c (book_of ws) o)
+        ≡ lent_of (record { reply = refusal 1; book = book_of ws }) = on-sound (heard c (book_of ws) o)
+        ∙ ap (λ (d : Bool). lent_of (heard d (book_of ws) o)) f in
         record {
-          answers = sym (ap (λ (l : Lent). l .reply) q);
-          leaves = sym (lawful-held ws (subst T (sym e) tt) .words) ∙ sym (ap (λ (l : Lent). l .words) q);
+          answers = sym (ap (λ (l : Lent). l.reply) q);
+          leaves = sym (lawful-held ws (subst T (sym e) tt)).words ∙ sym (ap (λ (l : Lent). l.words) q);
         }
 
-    pub owes-step : (c : Bool) → c ≡ true → (o : Outcome) (r : answer.Reply) (w : List ℕ) → Promise (lentOf o) r w
-        → Promise (onBook ws (heard c (bookOf ws) o)) r w
+    pub owes-step : (c : Bool) → c ≡ true → (o : Outcome) (r : answer.Reply) (w : List ℕ) → Promise (lent_of o) r w
+        → Promise (on_book ws (heard c (book_of ws) o)) r w
     owes-step c f o r w p =
-        let q : onBook ws (heard c (bookOf ws) o) ≡ lentOf o = on-sound (heard c (bookOf ws) o)
-        ∙ ap (λ (d : Bool). lentOf (heard d (bookOf ws) o)) f in
+        let q : on_book ws (heard c (book_of ws) o) ≡ lent_of o = on-sound (heard c (book_of ws) o)
+        ∙ ap (λ (d : Bool). lent_of (heard d (book_of ws) o)) f in
         subst (λ (l : Lent). Promise l r w) (sym q) p
 
   -- nothing stops a request: the book is sound, the bytes are read, and nothing stops the step
-  pub all-clear : (c : Bool) (stop : Option Reply) → stopOn (lawful ws) c stop ≡ none
+  pub all-clear : (c : Bool) (stop : Option Reply) → stop_on (lawful ws) c stop ≡ none
       → (lawful ws ≡ true) × (c ≡ true) × (stop ≡ none)
   all-clear c stop e = go (lawful ws) c stop e
     where
       go : (l c : Bool) (stop : Option Reply) → cond l (cond c stop (some (refusal 1))) (some (refusal 11)) ≡ none
           → (l ≡ true) × (c ≡ true) × (stop ≡ none)
-      go false c stop e = absurd (Option·some-ne-none (refusal 11) e)
-      go true false stop e = absurd (Option·some-ne-none (refusal 1) e)
+      go false c stop e = absurd (some-ne-none (refusal 11) e)
+      go true false stop e = absurd (some-ne-none (refusal 1) e)
       go true true stop e = (refl, refl, e)
 
 -- a stop is the reply, and no word changes
-pub owes-stop : (o : Lent) (r : answer.Reply) (ws : List ℕ) → o ≡ record { reply = spoken r; words = ws }
+pub owes_stop : (o : Lent) (r : answer.Reply) (ws : List ℕ) → o ≡ record { reply = spoken r; words = ws }
     → Promise o r ws
-owes-stop o r ws e = record
-    { answers = sym (ap (λ (l : Lent). l .reply) e); leaves = sym (ap (λ (l : Lent). l .words) e) }
+owes_stop o r ws e = record
+    { answers = sym (ap (λ (l : Lent). l.reply) e); leaves = sym (ap (λ (l : Lent). l.words) e) }
 
 -- a tap's bytes that are read
 module _ (ws bytes : List ℕ) (t : Tap) (l : Parts) (e : lawful ws ≡ true)
-    (read : said.Tap t l ≡ readAs (tapKind (bookOf ws .screens)) bytes) where
-  tap-told : T (readable (tapKind (bookOf ws .screens)) bytes)
-      × (said.Tap t l ≡ (tapKind (bookOf ws .screens)) .said (lineOf (tapKind (bookOf ws .screens)) bytes))
-  tap-told = told (tapKind (bookOf ws .screens)) bytes (said.Tap t l) read (omega arith)
+    (read : said.Tap t l ≡ read_as (tap_kind (book_of ws).screens) bytes) where
+  tap-told : T (readable (tap_kind (book_of ws).screens) bytes)
+      × (said.Tap t l ≡ (tap_kind (book_of ws).screens).said (line_of (tap_kind (book_of ws).screens) bytes))
+  tap-told = told (tap_kind (book_of ws).screens) bytes (said.Tap t l) read (omega arith)
 
-  tap-is : (t ≡ tapAt 1 (lineOf (tapKind (bookOf ws .screens)) bytes))
-      × (l ≡ partsAt 6 (lineOf (tapKind (bookOf ws .screens)) bytes))
-  unfolding tapKind
-  tap-is = let q = tap-told .1 in (cc, cc)
+  tap_is : (t ≡ tap_at 1 (line_of (tap_kind (book_of ws).screens) bytes))
+      × (l ≡ parts_at 6 (line_of (tap_kind (book_of ws).screens) bytes))
+  unfolding tap_kind
+  tap_is = let q = tap-told.1 in (cc, cc)
 
-  pub tap-fits : T (tapFits t) × T (stampFits (bookOf ws .screens) (listOf l))
-  unfolding readable tapKind
+  pub tap-fits : T (tap_fits t) × T (stamp_fits (book_of ws).screens (list_of l))
+  unfolding readable tap_kind
   tap-fits =
-      let line = lineOf (tapKind (bookOf ws .screens)) bytes in
-      let kept : T (tapFits (tapAt 1 line) && stampFits (bookOf ws .screens) (stampAt 6 line)) = and-r (shaped 3 bytes)
-      (tapFits (tapAt 1 line) && stampFits (bookOf ws .screens) (stampAt 6 line)) (tap-told .0) in (
-        subst (λ (x : Tap). T (tapFits x)) (sym (tap-is .0))
-            (and-l (tapFits (tapAt 1 line)) (stampFits (bookOf ws .screens) (stampAt 6 line)) kept),
-        subst (λ (x : Parts). T (stampFits (bookOf ws .screens) (listOf x))) (sym (tap-is .1))
-            (and-r (tapFits (tapAt 1 line)) (stampFits (bookOf ws .screens) (stampAt 6 line)) kept),
+      let line = line_of (tap_kind (book_of ws).screens) bytes in
+      let kept : T (tap_fits (tap_at 1 line) && stamp_fits (book_of ws).screens (stamp_at 6 line)) = and_r (shaped 3 bytes)
+      (tap_fits (tap_at 1 line) && stamp_fits (book_of ws).screens (stamp_at 6 line)) tap-told.0 in (
+        subst (λ (x : Tap). T (tap_fits x)) (sym tap_is.0)
+            (and_l (tap_fits (tap_at 1 line)) (stamp_fits (book_of ws).screens (stamp_at 6 line)) kept),
+        subst (λ (x : Parts). T (stamp_fits (book_of ws).screens (list_of x))) (sym tap_is.1)
+            (and_r (tap_fits (tap_at 1 line)) (stamp_fits (book_of ws).screens (stamp_at 6 line)) kept),
       )
 
   -- what stops the tap on the book stops it on the words
-  pub tap-stopped-on : (r : TapStop) → StopsTap (bookOf ws) t l r → TapStopOn ws bytes r
-  unfolding tapStop
+  pub tap-stopped-on : (r : TapStop) → StopsTap (book_of ws) t l r → TapStopOn ws bytes r
+  unfolding tap_stop
   tap-stopped-on r q = go r q
     where
       line : List ℕ
-      line = lineOf (tapKind (bookOf ws .screens)) bytes
+      line = line_of (tap_kind (book_of ws).screens) bytes
 
-      stops : tapStop ws bytes ≡ firstOf (tapStops (bookOf ws) t (listOf l))
+      stops : tap_stop ws bytes ≡ first_of (tap_stops (book_of ws) t (list_of l))
       stops =
-          stop-read ws e (readable (tapKind (bookOf ws .screens)) bytes) (tap-told .0)
-          (firstOf (tapStops (bookOf ws) (tapAt 1 line) (stampAt 6 line)))
-          ∙ ap₂ (λ (x : Tap) (y : Parts). firstOf (tapStops (bookOf ws) x (listOf y))) (sym (tap-is .0))
-          (sym (tap-is .1))
+          stop-read ws e (readable (tap_kind (book_of ws).screens) bytes) tap-told.0
+          (first_of (tap_stops (book_of ws) (tap_at 1 line) (stamp_at 6 line)))
+          ∙ ap₂ (λ (x : Tap) (y : Parts). first_of (tap_stops (book_of ws) x (list_of y))) (sym tap_is.0)
+          (sym tap_is.1)
 
-      go : (r : TapStop) → StopsTap (bookOf ws) t l r → TapStopOn ws bytes r
+      go : (r : TapStop) → StopsTap (book_of ws) t l r → TapStopOn ws bytes r
       go (tapped.Stopped x) q = stops ∙ q
-      go (tapped.Clear u m) q = (stops ∙ q .0, q .1 ∙ tap-is .0, q .2 ∙ tap-is .1)
+      go (tapped.Clear u m) q = (stops ∙ q.0, q.1 ∙ tap_is.0, q.2 ∙ tap_is.1)
 
 -- a tap that nothing stops
 module _ (ws bytes : List ℕ) (t : Tap) (l : Parts) (c : TapStopOn ws bytes (tapped.Clear t l)) where
   abbrev tap-line : List ℕ
-  tap-line = lineOf (tapKind (bookOf ws .screens)) bytes
+  tap-line = line_of (tap_kind (book_of ws).screens) bytes
 
-  tap-clears :
-      (lawful ws ≡ true) × (readable (tapKind (bookOf ws .screens)) bytes ≡ true)
-      × (firstOf (tapStops (bookOf ws) (tapAt 1 tap-line) (stampAt 6 tap-line)) ≡ none)
-  unfolding tapStop
-  tap-clears = all-clear ws (readable (tapKind (bookOf ws .screens)) bytes)
-      (firstOf (tapStops (bookOf ws) (tapAt 1 tap-line) (stampAt 6 tap-line))) (c .0)
+  tap_clears :
+      (lawful ws ≡ true) × (readable (tap_kind (book_of ws).screens) bytes ≡ true)
+      × (first_of (tap_stops (book_of ws) (tap_at 1 tap-line) (stamp_at 6 tap-line)) ≡ none)
+  unfolding tap_stop
+  tap_clears = all-clear ws (readable (tap_kind (book_of ws).screens) bytes)
+      (first_of (tap_stops (book_of ws) (tap_at 1 tap-line) (stamp_at 6 tap-line))) c.0
 
-  pub tap-may : T (lawful ws) × (firstOf (tapStops (bookOf ws) t (listOf l)) ≡ none)
-  tap-may = (
-    subst T (sym (tap-clears .0)) tt,
-    ap₂ (λ (x : Tap) (y : Parts). firstOf (tapStops (bookOf ws) x (listOf y))) (c .1) (c .2) ∙ tap-clears .2,
+  pub tap_may : T (lawful ws) × (first_of (tap_stops (book_of ws) t (list_of l)) ≡ none)
+  tap_may = (
+    subst T (sym tap_clears.0) tt,
+    ap₂ (λ (x : Tap) (y : Parts). first_of (tap_stops (book_of ws) x (list_of y))) c.1 c.2 ∙ tap_clears.2,
   )
 
-  pub tap-owes : (r : answer.Reply) (w : List ℕ) → Promise (lentOf (tapStep (bookOf ws) t (listOf l))) r w
-      → Promise (tapOn ws bytes) r w
-  unfolding tapOn
+  pub tap-owes : (r : answer.Reply) (w : List ℕ) → Promise (lent_of (tap_step (book_of ws) t (list_of l))) r w
+      → Promise (tap_on ws bytes) r w
+  unfolding tap_on
   tap-owes r w p =
-      owes-step ws (tap-clears .0) (readable (tapKind (bookOf ws .screens)) bytes) (tap-clears .1)
-      (tapStep (bookOf ws) (tapAt 1 tap-line) (stampAt 6 tap-line)) r w
-      (subst (λ (x : Tap). Promise (lentOf (tapStep (bookOf ws) x (stampAt 6 tap-line))) r w) (c .1)
-      (subst (λ (x : Parts). Promise (lentOf (tapStep (bookOf ws) t (listOf x))) r w) (c .2) p))
+      owes-step ws tap_clears.0 (readable (tap_kind (book_of ws).screens) bytes) tap_clears.1
+      (tap_step (book_of ws) (tap_at 1 tap-line) (stamp_at 6 tap-line)) r w
+      (subst (λ (x : Tap). Promise (lent_of (tap_step (book_of ws) x (stamp_at 6 tap-line))) r w) c.1
+      (subst (λ (x : Parts). Promise (lent_of (tap_step (book_of ws) t (list_of x))) r w) c.2 p))
 
 -- a question's bytes that are read
 module _ (ws bytes : List ℕ) (p : ℕ) (l : Parts) (e : lawful ws ≡ true)
-    (read : said.Question p l ≡ readAs (questionKind (bookOf ws .screens)) bytes) where
-  question-told : T (readable (questionKind (bookOf ws .screens)) bytes)
-      × (said.Question p l ≡ (questionKind (bookOf ws .screens)) .said
-      (lineOf (questionKind (bookOf ws .screens)) bytes))
-  question-told = told (questionKind (bookOf ws .screens)) bytes (said.Question p l) read (omega arith)
+    (read : said.Question p l ≡ read_as (question_kind (book_of ws).screens) bytes) where
+  question-told : T (readable (question_kind (book_of ws).screens) bytes)
+      × (said.Question p l ≡ (question_kind (book_of ws).screens).said
+      (line_of (question_kind (book_of ws).screens) bytes))
+  question-told = told (question_kind (book_of ws).screens) bytes (said.Question p l) read (omega arith)
 
-  question-is : (p ≡ getD (lineOf (questionKind (bookOf ws .screens)) bytes) 1 0)
-      × (l ≡ partsAt 2 (lineOf (questionKind (bookOf ws .screens)) bytes))
-  unfolding questionKind
-  question-is = let q = question-told .1 in (cc, cc)
+  question_is : (p ≡ get_or (line_of (question_kind (book_of ws).screens) bytes) 1 0)
+      × (l ≡ parts_at 2 (line_of (question_kind (book_of ws).screens) bytes))
+  unfolding question_kind
+  question_is = let q = question-told.1 in (cc, cc)
 
-  pub question-fits : (p < promptCount) × T (stampFits (bookOf ws .screens) (listOf l))
-  unfolding readable questionKind
+  pub question-fits : (p < prompt_count) × T (stamp_fits (book_of ws).screens (list_of l))
+  unfolding readable question_kind
   question-fits =
-      let line = lineOf (questionKind (bookOf ws .screens)) bytes in
-      let kept : T (ltb (getD line 1 0) promptCount && stampFits (bookOf ws .screens) (stampAt 2 line)) = and-r
-      (shaped 4 bytes) (ltb (getD line 1 0) promptCount && stampFits (bookOf ws .screens) (stampAt 2 line))
-      (question-told .0) in (
-        subst (λ (x : ℕ). x < promptCount) (sym (question-is .0))
-            (ltb→lt (getD line 1 0) promptCount
-            (and-l (ltb (getD line 1 0) promptCount) (stampFits (bookOf ws .screens) (stampAt 2 line)) kept)),
-        subst (λ (x : Parts). T (stampFits (bookOf ws .screens) (listOf x))) (sym (question-is .1))
-            (and-r (ltb (getD line 1 0) promptCount) (stampFits (bookOf ws .screens) (stampAt 2 line)) kept),
+      let line = line_of (question_kind (book_of ws).screens) bytes in
+      let kept : T (ltb (get_or line 1 0) prompt_count && stamp_fits (book_of ws).screens (stamp_at 2 line)) = and_r
+      (shaped 4 bytes) (ltb (get_or line 1 0) prompt_count && stamp_fits (book_of ws).screens (stamp_at 2 line))
+      question-told.0 in (
+        subst (λ (x : ℕ). x < prompt_count) (sym question_is.0)
+            (ltb→lt (get_or line 1 0) prompt_count
+            (and_l (ltb (get_or line 1 0) prompt_count) (stamp_fits (book_of ws).screens (stamp_at 2 line)) kept)),
+        subst (λ (x : Parts). T (stamp_fits (book_of ws).screens (list_of x))) (sym question_is.1)
+            (and_r (ltb (get_or line 1 0) prompt_count) (stamp_fits (book_of ws).screens (stamp_at 2 line)) kept),
       )
 
-  pub question-owes : (r : answer.Reply) → spoken r ≡ (ask (bookOf ws) p (listOf l)) .reply
-      → Promise (questionOn ws bytes) r ws
-  unfolding questionOn
+  pub question-owes : (r : answer.Reply) → spoken r ≡ (ask (book_of ws) p (list_of l)).reply
+      → Promise (question_on ws bytes) r ws
+  unfolding question_on
   question-owes r a =
-      let line = lineOf (questionKind (bookOf ws .screens)) bytes in
-      owes-step ws e (readable (questionKind (bookOf ws .screens)) bytes)
-      (is-true (readable (questionKind (bookOf ws .screens)) bytes) (question-told .0))
-      (ask (bookOf ws) (getD line 1 0) (stampAt 2 line)) r ws
-      (subst (λ (x : ℕ). Promise (lentOf (ask (bookOf ws) x (stampAt 2 line))) r ws) (question-is .0)
-      (subst (λ (x : Parts). Promise (lentOf (ask (bookOf ws) p (listOf x))) r ws) (question-is .1)
+      let line = line_of (question_kind (book_of ws).screens) bytes in
+      owes-step ws e (readable (question_kind (book_of ws).screens) bytes)
+      (is_true (readable (question_kind (book_of ws).screens) bytes) question-told.0)
+      (ask (book_of ws) (get_or line 1 0) (stamp_at 2 line)) r ws
+      (subst (λ (x : ℕ). Promise (lent_of (ask (book_of ws) x (stamp_at 2 line))) r ws) question_is.0
+      (subst (λ (x : Parts). Promise (lent_of (ask (book_of ws) p (list_of x))) r ws) question_is.1
       (record {
         answers = a;
-        leaves = sym (lawful-held ws (subst T (sym e) tt) .words)
-            ∙ sym (ap wordsOf (ask-keeps (bookOf ws) p (listOf l)));
+        leaves = sym (lawful-held ws (subst T (sym e) tt)).words
+            ∙ sym (ap words_of (ask-keeps (book_of ws) p (list_of l)));
       })))
 
 -- what send owes
-pub send-owes-unsound : (ws out : List ℕ) → lawful ws ≡ false → Meets (sendOn ws out) (Refused 11) out
-unfolding sendOn
-send-owes-unsound ws out e =
+pub send-owes_unsound : (ws out : List ℕ) → lawful ws ≡ false → Meets (send_on ws out) (Refused 11) out
+unfolding send_on
+send-owes_unsound ws out e =
     subst (λ (o : Output). Meets o (Refused 11) out)
-    (ap (λ (c : Bool). cond c (putFront (messageBytes (send (bookOf ws))) out) (refuse 11 out)) (sym e))
+    (ap (λ (c : Bool). cond c (put_front (message_bytes (send (book_of ws))) out) (refuse 11 out)) (sym e))
     (record { answers = refl; leaves = refl })
 
 pub send-owes : (ws out : List ℕ) → lawful ws ≡ true → (r : Written) (w : List ℕ)
-    → Meets (putFront (messageBytes (send (bookOf ws))) out) r w → Meets (sendOn ws out) r w
-unfolding sendOn
+    → Meets (put_front (message_bytes (send (book_of ws))) out) r w → Meets (send_on ws out) r w
+unfolding send_on
 send-owes ws out e r w m =
     subst (λ (o : Output). Meets o r w)
-    (ap (λ (c : Bool). cond c (putFront (messageBytes (send (bookOf ws))) out) (refuse 11 out)) (sym e)) m
+    (ap (λ (c : Bool). cond c (put_front (message_bytes (send (book_of ws))) out) (refuse 11 out)) (sym e)) m
 
 -- a gossip's bytes that are read
 module _ (ws bytes : List ℕ) (sender screens count : ℕ) (m : Parts) (e : lawful ws ≡ true)
-    (read : said.Head sender screens count m ≡ readGossip bytes) where
-  gossip-line : T (wellFormed bytes) × (headLine bytes ≡ 1 ∷ sender ∷ screens ∷ count ∷ listOf m)
+    (read : said.Head sender screens count m ≡ read_gossip bytes) where
+  gossip-line : T (well_formed bytes) × (head_line bytes ≡ 1 ∷ sender ∷ screens ∷ count ∷ list_of m)
   gossip-line = let t = gossip-told bytes (said.Head sender screens count m) read (omega arith) in
-      (t .0, head-in bytes sender screens count m (t .1))
+      (t.0, head_in bytes sender screens count m t.1)
 
-  pub gossip-heard : Heard bytes sender screens count (listOf m)
-  unfolding partsAt listOf
+  pub gossip-heard : Heard bytes sender screens count (list_of m)
+  unfolding parts_at list_of
   gossip-heard =
-      let h = gossip-line .1 in
+      let h = gossip-line.1 in
       record {
         head = record {
-          formed = gossip-line .0;
-          screens = ap (λ (l : List ℕ). getD l 2 0) h;
-          stamp = ap (λ (l : List ℕ). stampAt 4 l) h;
+          formed = gossip-line.0;
+          screens = ap (λ (l : List ℕ). get_or l 2 0) h;
+          stamp = ap (λ (l : List ℕ). stamp_at 4 l) h;
         };
-        from = ap (λ (l : List ℕ). getD l 1 0) h;
-        number = ap (λ (l : List ℕ). getD l 3 0) h;
+        from = ap (λ (l : List ℕ). get_or l 1 0) h;
+        number = ap (λ (l : List ℕ). get_or l 3 0) h;
       }
 
   -- what stops the gossip on the book stops it on the words
-  pub gossip-stopped-on : (r : GossipStop) → StopsGossip (bookOf ws) (messageOf bytes) sender screens count m r
+  pub gossip-stopped-on : (r : GossipStop) → StopsGossip (book_of ws) (message_of bytes) sender screens count m r
       → GossipStopOn ws bytes r
-  unfolding gossipStop
+  unfolding gossip_stop
   gossip-stopped-on r q = go r q
     where
-      stops : gossipStop ws bytes ≡ firstOf (gossipStops (bookOf ws) (messageOf bytes))
-      stops = stop-read ws e (wellFormed bytes) (gossip-line .0) (firstOf (gossipStops (bookOf ws) (messageOf bytes)))
+      stops : gossip_stop ws bytes ≡ first_of (gossip_stops (book_of ws) (message_of bytes))
+      stops = stop-read ws e (well_formed bytes) gossip-line.0 (first_of (gossip_stops (book_of ws) (message_of bytes)))
 
-      go : (r : GossipStop) → StopsGossip (bookOf ws) (messageOf bytes) sender screens count m r
+      go : (r : GossipStop) → StopsGossip (book_of ws) (message_of bytes) sender screens count m r
           → GossipStopOn ws bytes r
       go (gossiped.Stopped x) q = stops ∙ q
-      go (gossiped.Clear j n c p new) q = (stops ∙ q .0, rw (q .1, q .2, q .3, q .4) gossip-heard, q .5)
+      go (gossiped.Clear j n c p new) q = (stops ∙ q.0, rw (q.1, q.2, q.3, q.4) gossip-heard, q.5)
 
 -- a gossip that nothing stops
-module _ (ws bytes : List ℕ) (c : gossipStop ws bytes ≡ none) where
-  gossip-clears : (lawful ws ≡ true) × (wellFormed bytes ≡ true)
-      × (firstOf (gossipStops (bookOf ws) (messageOf bytes)) ≡ none)
-  unfolding gossipStop
-  gossip-clears = all-clear ws (wellFormed bytes) (firstOf (gossipStops (bookOf ws) (messageOf bytes))) c
+module _ (ws bytes : List ℕ) (c : gossip_stop ws bytes ≡ none) where
+  gossip_clears : (lawful ws ≡ true) × (well_formed bytes ≡ true)
+      × (first_of (gossip_stops (book_of ws) (message_of bytes)) ≡ none)
+  unfolding gossip_stop
+  gossip_clears = all-clear ws (well_formed bytes) (first_of (gossip_stops (book_of ws) (message_of bytes))) c
 
-  pub gossip-may : T (lawful ws) × (firstOf (gossipStops (bookOf ws) (messageOf bytes)) ≡ none)
-  gossip-may = (subst T (sym (gossip-clears .0)) tt, gossip-clears .2)
+  pub gossip_may : T (lawful ws) × (first_of (gossip_stops (book_of ws) (message_of bytes)) ≡ none)
+  gossip_may = (subst T (sym gossip_clears.0) tt, gossip_clears.2)
 
-  pub gossip-owes : (r : answer.Reply) (w : List ℕ) → Promise (lentOf (gossipStep (bookOf ws) (messageOf bytes))) r w
-      → Promise (gossipOn ws bytes) r w
-  unfolding gossipOn
-  gossip-owes r w p = owes-step ws (gossip-clears .0) (wellFormed bytes) (gossip-clears .1)
-      (gossipStep (bookOf ws) (messageOf bytes)) r w p
+  pub gossip-owes : (r : answer.Reply) (w : List ℕ) → Promise (lent_of (gossip_step (book_of ws) (message_of bytes))) r w
+      → Promise (gossip_on ws bytes) r w
+  unfolding gossip_on
+  gossip-owes r w p = owes-step ws gossip_clears.0 (well_formed bytes) gossip_clears.1
+      (gossip_step (book_of ws) (message_of bytes)) r w p

@@ -1,39 +1,31 @@
 // The book on a lent slice: open, tap, question, send and gossip. Every entry judges its own arguments.
+ghost use Rattle.promise.specs.Lent.{Promise, tap_on, question_on, gossip_on, send_on, open_on};
+ghost use Rattle.open_step.specs.Opening.{Opens};
+ghost use Rattle.wire.specs.Write.{Meets};
+ghost use Rattle.book.specs.Stop.{TapStopOn, GossipStopOn};
+
 use ask_step::ask_book;
-use gossip_step::GossipStop;
-use gossip_step::stop_gossip;
-use gossip_step::take_gossip;
+use gossip_step::{GossipStop, stop_gossip, take_gossip};
 use lent::screens_of;
 use message::read_gossip;
-use open_step::Opening;
-use open_step::open_book;
-use promise::Reply;
-use promise::UNSOUND;
-use requests::read_question;
-use requests::read_tap;
+use open_step::{Opening, open_book};
+use promise::{Reply, UNSOUND};
+use requests::{read_question, read_tap};
 use send_step::send_book;
 use soundness::sound;
-use tap_step::TapStop;
-use tap_step::stop_tap;
-use tap_step::take_tap;
-use wire::BAD;
-use wire::Said;
-use wire::Written;
-ghost use Rattle·promise.specs.Lent.{Promise, tapOn, questionOn, gossipOn, sendOn, openOn};
-ghost use Rattle·open_step.specs.Opening.{Opens};
-ghost use Rattle·wire.specs.Write.{Meets};
-ghost use Rattle·book·specs.specs.Stop.{TapStopOn, GossipStopOn};
+use tap_step::{TapStop, stop_tap, take_tap};
+use wire::{BAD, Said, Written};
 
 // The fresh book of screen i of n, or the refusal's number.
 pub fn open(b: &mut [u64], i: u64, n: u64) -> Opening
-    ensures { λ r. ⌜ Opens (openOn (now (b .entry)) i n) r (now (b .exit)) ⌝ }
+    ensures { Opens (open_on b.old i n) result b.new }
 {
     open_book(b, i, n)
 }
 
 // What stops a tap, judged before any word changes; or the tap and the label that its bytes hold.
 pub fn tap_stop(b: &[u64], msg: &[u8]) -> TapStop
-    ensures { λ r. ⌜ TapStopOn (now (b .entry)) (now (msg .entry)) r ⌝ }
+    ensures { TapStopOn b.now msg.now result }
 {
     if !sound(b) {
         return TapStop::Stopped(Reply::Refused(UNSOUND));
@@ -47,7 +39,7 @@ pub fn tap_stop(b: &[u64], msg: &[u8]) -> TapStop
 }
 
 pub fn tap(b: &mut [u64], msg: &[u8]) -> Reply
-    ensures { λ r. ⌜ Promise (tapOn (now (b .entry)) (now (msg .entry))) r (now (b .exit)) ⌝ }
+    ensures { Promise (tap_on b.old msg.now) result b.new }
 {
     let stop = tap_stop(b, msg);
     match stop {
@@ -58,7 +50,7 @@ pub fn tap(b: &mut [u64], msg: &[u8]) -> Reply
 
 // The book does not change: it is lent to be read only.
 pub fn question(b: &[u64], msg: &[u8]) -> Reply
-    ensures { λ r. ⌜ Promise (questionOn (now (b .entry)) (now (msg .entry))) r (now (b .entry)) ⌝ }
+    ensures { Promise (question_on b.now msg.now) result b.now }
 {
     if !sound(b) {
         return Reply::Refused(UNSOUND);
@@ -73,7 +65,7 @@ pub fn question(b: &[u64], msg: &[u8]) -> Reply
 
 // The known stamp and the whole log as one gossip message at the front of out; the rest of out stays.
 pub fn send(b: &[u64], out: &mut [u8]) -> Written
-    ensures { λ r. ⌜ Meets (sendOn (now (b .entry)) (now (out .entry))) r (now (out .exit)) ⌝ }
+    ensures { Meets (send_on b.now out.old) result out.new }
 {
     if !sound(b) {
         return Written::Refused(UNSOUND);
@@ -83,7 +75,7 @@ pub fn send(b: &[u64], out: &mut [u8]) -> Written
 
 // What stops a gossip, judged before any word changes; or its head and how many of its records are new.
 pub fn gossip_stop(b: &[u64], msg: &[u8]) -> GossipStop
-    ensures { λ r. ⌜ GossipStopOn (now (b .entry)) (now (msg .entry)) r ⌝ }
+    ensures { GossipStopOn b.now msg.now result }
 {
     if !sound(b) {
         return GossipStop::Stopped(Reply::Refused(UNSOUND));
@@ -102,7 +94,7 @@ pub fn gossip_stop(b: &[u64], msg: &[u8]) -> GossipStop
 }
 
 pub fn gossip(b: &mut [u64], msg: &[u8]) -> Reply
-    ensures { λ r. ⌜ Promise (gossipOn (now (b .entry)) (now (msg .entry))) r (now (b .exit)) ⌝ }
+    ensures { Promise (gossip_on b.old msg.now) result b.new }
 {
     let stop = gossip_stop(b, msg);
     match stop {

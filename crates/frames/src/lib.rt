@@ -1,24 +1,16 @@
 // The next message of standard input: how many bytes it has, as far as what is read tells, and whether it is whole.
+ghost use Rattle.std.specs.Prelude.{◌≡◌, ◌≤◌, ◌<◌, length};
+ghost use Rattle.limits.specs.Limits.{log_room};
+ghost use Rattle.frames.specs.Frame.{expected, gossip_frame, frame_of};
+ghost use Rattle.frames.specs.Next.{record_stands, records_stand, Counted, kinds_stand, next_of};
+
 use limits::log_room;
 use numbers::number_at;
-use wire::BodyLength;
-use wire::HEAD;
-use wire::HEAD_SIZE;
-use wire::KIND_SIZE;
-use wire::OPEN;
-use wire::RECORD;
-use wire::RECORD_SIZE;
-use wire::body_of;
-use wire::room_of;
-ghost use mathlib.Core.Path.{_≡_};
-ghost use Prim.Native.Nat.{_≤_, _<_};
-ghost use lib.ListN.{length};
-ghost use Rattle·limits.specs.Limits.{logRoom};
-ghost use Rattle·frames·specs.specs.Frame.{expected, gossipFrame, frameOf};
-ghost use Rattle·frames·specs.specs.Next.{recordStands, recordsStand, Counted, kindsStand, nextOf};
+use wire::{BodyLength, HEAD, HEAD_SIZE, KIND_SIZE, OPEN, RECORD, RECORD_SIZE, body_of, room_of};
 
 // At least so many bytes in all are needed to tell; the message has so many in all; or 09 01 is written, and reading
 // stops.
+#[derive(Drop)]
 pub enum Frame {
     More(usize),
     Whole(usize),
@@ -34,7 +26,7 @@ const COUNT_END: usize = COUNT_AT + COUNT_WIDTH;
 
 // Kind 11 comes first, then requests.
 fn is_expected(kind: u8, opened: bool) -> bool
-    ensures { λ r. ⌜ r ≡ expected opened kind ⌝ }
+    ensures { result ≡ expected opened kind }
 {
     if !opened {
         return kind == OPEN;
@@ -44,7 +36,7 @@ fn is_expected(kind: u8, opened: bool) -> bool
 
 // A head's count fixes how many records follow.
 fn gossip_frame(read: &[u8]) -> Frame
-    ensures { λ r. ⌜ r ≡ gossipFrame (now (read .entry)) ⌝ }
+    ensures { result ≡ gossip_frame read.now }
 {
     if read.len() < COUNT_END {
         return Frame::More(COUNT_END);
@@ -57,7 +49,7 @@ fn gossip_frame(read: &[u8]) -> Frame
 }
 
 pub fn frame_of(read: &[u8], opened: bool) -> Frame
-    ensures { λ r. ⌜ r ≡ frameOf (now (read .entry)) opened ⌝ }
+    ensures { result ≡ frame_of read.now opened }
 {
     if read.len() == 0 {
         return Frame::More(KIND_SIZE);
@@ -78,8 +70,8 @@ pub fn frame_of(read: &[u8], opened: bool) -> Frame
 
 // Whether record k of a gossip message has its kind, as far as that byte is read.
 fn record_stands(read: &[u8], k: usize) -> bool
-    requires { ⌜ k < logRoom ⌝ }
-    ensures { λ r. ⌜ r ≡ recordStands (now (read .entry)) k ⌝ }
+    requires { k < log_room }
+    ensures { result ≡ record_stands read.now k }
 {
     let at = HEAD_SIZE + k * RECORD_SIZE;
     if read.len() <= at {
@@ -90,8 +82,8 @@ fn record_stands(read: &[u8], k: usize) -> bool
 
 // Whether each of the first records of a gossip message has its kind, as far as it is read.
 fn records_stand(read: &[u8], count: usize) -> bool
-    requires { ⌜ count ≤ logRoom ⌝ }
-    ensures { λ r. ⌜ r ≡ recordsStand count (now (read .entry)) ⌝ }
+    requires { count ≤ log_room }
+    ensures { result ≡ records_stand count read.now }
 {
     let mut k = count;
     while k > 0 {
@@ -105,9 +97,9 @@ fn records_stand(read: &[u8], count: usize) -> bool
 
 // Whether every piece of a message has its kind, as far as it is read.
 fn kinds_stand(read: &[u8]) -> bool
-    requires { ⌜ 0 < length (now read) ⌝ }
-    requires { ⌜ Counted (now read) ⌝ }
-    ensures { λ r. ⌜ r ≡ kindsStand (now (read .entry)) ⌝ }
+    requires read_nonzero { 0 < length read.now }
+    requires counted { Counted read.now }
+    ensures { result ≡ kinds_stand read.now }
 {
     if read[0] != HEAD {
         return true;
@@ -118,7 +110,7 @@ fn kinds_stand(read: &[u8]) -> bool
 
 // The next message in what is read: whole only when all of it is there and each piece of it has its kind.
 pub fn next_in(read: &[u8], opened: bool) -> Frame
-    ensures { λ r. ⌜ r ≡ nextOf (now (read .entry)) opened ⌝ }
+    ensures { result ≡ next_of read.now opened }
 {
     let frame = frame_of(read, opened);
     let Frame::Whole(n) = frame else {

@@ -1,52 +1,52 @@
 -- The message that was heard: its values, and the field rules that it keeps. Assumes nothing.
-use Prim.Native.Nat.{ℕ, _≤_, _<_}
+use Prim.Native.Nat.{ℕ, ◌≤◌, ◌<◌}
 use native.Mathlib.Omega.{arith}
-use mathlib.Core.Path.{_≡_, refl, subst}
+use mathlib.Core.Path.{◌≡◌, refl, subst}
 use mathlib.Core.List.{List}
 use lib.Dec.{T}
-use Rattle·limits.specs.Limits.{logRoom}
-use Rattle·stamp.specs.Laws.{Fits, fits-test}
-use Rattle·stamp.specs.Stamp.{Stamp, stampFits}
-use Rattle·tally.specs.Body.{bodyFits}
-use Rattle·ledger.specs.LimitLaws.{range-me}
-use Rattle·ledger.specs.Message.{messageFits}
-use Rattle·ledger.specs.MessageLaws.{Readable, readable}
-use Rattle·message.specs.Message.{recordsIn, messageOf}
-use Rattle·message.specs.MessageLaws.{length-records, well-fits}
-use Rattle·gossip_step·specs.specs.Heard.{Heard}
+use Rattle.limits.specs.Limits.{log_room}
+use Rattle.stamp.specs.Laws.{Fits, fits_test}
+use Rattle.stamp.specs.Stamp.{Stamp, stamp_fits}
+use Rattle.tally.specs.Body.{body_fits}
+use Rattle.ledger.specs.LimitLaws.{range-me}
+use Rattle.ledger.specs.Message.{message_fits}
+use Rattle.ledger.specs.MessageLaws.{Readable, readable}
+use Rattle.message.specs.Message.{records_in, message_of}
+use Rattle.message.specs.MessageLaws.{length-records, well-fits}
+use Rattle.gossip_step.specs.Heard.{Heard}
 
 module _ (bytes : List ℕ) (j n count : ℕ) (m : Stamp) (h : Heard bytes j n count m) where
-  pub sender-is : messageOf bytes .sender ≡ j
-  unfolding messageOf
-  sender-is = h .from
+  pub sender_is : (message_of bytes).sender ≡ j
+  unfolding message_of
+  sender_is = h.from
 
-  pub screens-is : messageOf bytes .screens ≡ n
-  unfolding messageOf
-  screens-is = h .head .screens
+  pub screens_is : (message_of bytes).screens ≡ n
+  unfolding message_of
+  screens_is = h.head.screens
 
-  pub stamp-is : messageOf bytes .stamp ≡ m
-  unfolding messageOf
-  stamp-is = h .head .stamp
+  pub stamp_is : (message_of bytes).stamp ≡ m
+  unfolding message_of
+  stamp_is = h.head.stamp
 
-  pub message-fits : T (messageFits bodyFits (messageOf bytes))
-  message-fits = well-fits bytes (h .head .formed)
+  pub message-fits : T (message_fits body_fits (message_of bytes))
+  message-fits = well-fits bytes h.head.formed
 
-  rules : Readable bodyFits (messageOf bytes)
-  rules = readable bodyFits (messageOf bytes) message-fits
+  rules : Readable body_fits (message_of bytes)
+  rules = readable body_fits (message_of bytes) message-fits
 
-  pub sender-in : j < n
-  sender-in =
-      omega (arith, range-me (messageOf bytes .sender) (messageOf bytes .screens) (rules .range), sender-is, screens-is)
+  pub sender_in_lem : j < n
+  sender_in_lem =
+      omega (arith, range-me (message_of bytes).sender (message_of bytes).screens rules.range, sender_is, screens_is)
 
-  pub stamp-in : T (stampFits n m)
-  stamp-in =
-      let fit = subst (λ (k : ℕ). Fits k (messageOf bytes .stamp)) screens-is (rules .stamp-fits) in
-      subst (λ (x : Stamp). T (stampFits n x)) stamp-is (fits-test n (messageOf bytes .stamp) fit)
+  pub stamp_in_lem : T (stamp_fits n m)
+  stamp_in_lem =
+      let fit = subst (λ (k : ℕ). Fits k (message_of bytes).stamp) screens_is rules.stamp-fits in
+      subst (λ (x : Stamp). T (stamp_fits n x)) stamp_is (fits_test n (message_of bytes).stamp fit)
 
-  pub count-few : count ≤ logRoom
-  unfolding messageOf
-  count-few = omega (arith, rules .few, length-records bytes, h .number)
+  pub count-few : count ≤ log_room
+  unfolding message_of
+  count-few = omega (arith, rules.few, length-records bytes, h.number)
 
-pub records-are : (bytes : List ℕ) → messageOf bytes .records ≡ recordsIn bytes
-unfolding messageOf
-records-are bytes = refl
+pub records_are : (bytes : List ℕ) → (message_of bytes).records ≡ records_in bytes
+unfolding message_of
+records_are bytes = refl

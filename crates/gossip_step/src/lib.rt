@@ -1,68 +1,46 @@
 // Gossip on a sound book: why it is refused, by its head, then its records, judged before any word changes; its taking.
-use arrivals::look_at;
-use arrivals::merge_new;
-use lent::known_of;
-use lent::log_end;
-use lent::log_start;
-use lent::logged_of;
-use lent::raise_row;
-use lent::ready_of;
-use lent::row_of;
-use lent::screen_of;
-use lent::screens_of;
-use lent::set_logged;
-use limits::book_room;
-use limits::log_room;
-use promise::AHEAD;
-use promise::CROSSED;
-use promise::GAP;
-use promise::NO_ROOM;
-use promise::OLD;
-use promise::Reply;
-use promise::SPENT;
-use promise::WRONG_HOUSE;
+ghost use Rattle.std.specs.Prelude.{◌≡◌, ◌<◌, ◌+◌, ◌-◌, ◌*◌, ◌≤◌, T, ltb, length};
+ghost use Rattle.lists.specs.Tests.{every, first_of};
+ghost use Rattle.limits.specs.Limits.{word, log_room};
+ghost use Rattle.stamp.specs.Stamp.{stamp_fits, merge, total};
+ghost use Rattle.log.specs.Region.{stamp_long, row_long, records_at};
+ghost use Rattle.meaning.specs.Book.{row, known};
+ghost use Rattle.lent.specs.Words.{book_of, lawful, words_of};
+ghost use Rattle.gossip_step.specs.Refusals.{row_refusal, own_refusal, stamp_refusal};
+ghost use Rattle.lists.specs.Part.{mid, patch};
+ghost use Rattle.stamp.specs.Parts.{list_of};
+ghost use Rattle.ledger.specs.Log.{gathered, unknowns};
+ghost use Rattle.log_edit.specs.Merge.{Fresh, merged};
+ghost use Rattle.message.specs.Message.{records_in, message_of};
+ghost use Rattle.lent.specs.Held.{Held};
+ghost use Rattle.lent.specs.With.{with_table, with_log};
+ghost use Rattle.gossip_step.specs.Taken.{raised_rows, Raisable, Coming};
+ghost use Rattle.std.proofs.Math.Option.{none};
+ghost use Rattle.meaning.specs.Step.{now_applied, new_ones, hear_book, gossip_stops, gossip_step};
+ghost use Rattle.meaning.specs.StepLaws.{GossipDone};
+ghost use Rattle.promise.specs.Lent.{Promise};
+ghost use Rattle.promise.specs.LentLaws.{lent_of};
+ghost use Rattle.gossip_step.specs.Heard.{Heard};
+ghost use Rattle.gossip_step.specs.Stop.{StopsGossip};
+
+use arrivals::{look_at, merge_new};
+use lent::{
+    known_of, log_end, log_start, logged_of, raise_row, ready_of, row_of, screen_of, screens_of,
+    set_logged,
+};
+use limits::{book_room, log_room};
+use promise::{AHEAD, CROSSED, GAP, NO_ROOM, OLD, Reply, SPENT, WRONG_HOUSE};
 use settle::settle_book;
-use stamp::Parts;
-use stamp::at_most;
-use stamp::list_of;
-use stamp::merge_into;
-use stamp::parts_at;
-use stamp::sum;
-ghost use mathlib.Core.Path.{_≡_};
-ghost use Prim.Native.Nat.{_<_, _+_, _-_, _*_, _≤_};
-ghost use lib.Dec.{T, ltb};
-ghost use lib.ListN.{length};
-ghost use Rattle·lists.specs.Tests.{every, firstOf};
-ghost use Rattle·limits.specs.Limits.{word, logRoom};
-ghost use Rattle·stamp.specs.Stamp.{stampFits, merge, total};
-ghost use Rattle·log.specs.Region.{stampLong, rowLong, recordsAt};
-ghost use Rattle·meaning.specs.Book.{row, known};
-ghost use Rattle·lent.specs.Words.{bookOf, lawful, wordsOf};
-ghost use Rattle·gossip_step·specs.specs.Refusals.{rowRefusal, ownRefusal, stampRefusal};
-ghost use Rattle·lists.specs.Part.{mid, patch};
-ghost use Rattle·stamp.specs.Parts.{listOf};
-ghost use Rattle·ledger.specs.Log.{gathered, unknowns};
-ghost use Rattle·log_edit.specs.Merge.{Fresh, merged};
-ghost use Rattle·message.specs.Message.{recordsIn, messageOf};
-ghost use Rattle·lent.specs.Held.{Held};
-ghost use Rattle·lent.specs.With.{withTable, withLog};
-ghost use Rattle·gossip_step·specs.specs.Taken.{raisedRows, Raisable, Coming};
-ghost use mathlib.Core.Option.{none};
-ghost use Rattle·meaning.specs.Step.{nowApplied, newOnes, hearBook, gossipStops, gossipStep};
-ghost use Rattle·meaning.specs.StepLaws.{GossipDone};
-ghost use Rattle·promise.specs.Lent.{Promise};
-ghost use Rattle·promise.specs.LentLaws.{lentOf};
-ghost use Rattle·gossip_step·specs.specs.Heard.{Heard};
-ghost use Rattle·gossip_step·specs.specs.Stop.{StopsGossip};
+use stamp::{Parts, at_most, list_of, merge_into, parts_at, sum};
 
 // No refusal has this number.
 pub const NONE: u64 = 0;
 
 // The sum of the merged stamp's parts, in a number that holds eight of 32 bits.
 fn merged_sum(a: &[u64], m: &[u64]) -> u64
-    requires { ⌜ (length (now a) ≡ stampLong) × (length (now m) ≡ stampLong) ⌝ }
-    requires { ⌜ T (every (λ x. ltb x word) (merge (now a) (now m))) ⌝ }
-    ensures { λ r. ⌜ r ≡ total (merge (now (a .entry)) (now (m .entry))) ⌝ }
+    requires a_len { (length a.now ≡ stamp_long) × (length m.now ≡ stamp_long) }
+    requires t { T (every (λ x. ltb x word) (merge a.now m.now)) }
+    ensures { result ≡ total (merge a.now m.now) }
 {
     let mut s = list_of(parts_at(a, 0));
     merge_into(&mut s, m);
@@ -71,8 +49,8 @@ fn merged_sum(a: &[u64], m: &[u64]) -> u64
 
 // A stamp against the sender's row.
 fn row_refusal(row: &[u64], m: &[u64]) -> u64
-    requires { ⌜ length (now row) ≡ length (now m) ⌝ }
-    ensures { λ r. ⌜ r ≡ rowRefusal (now (row .entry)) (now (m .entry)) ⌝ }
+    requires { length row.now ≡ length m.now }
+    ensures { result ≡ row_refusal row.now m.now }
 {
     if at_most(m, row) {
         return OLD;
@@ -85,9 +63,9 @@ fn row_refusal(row: &[u64], m: &[u64]) -> u64
 
 // A stamp against our own.
 fn own_refusal(known: &[u64], me: usize, m: &[u64]) -> u64
-    requires { ⌜ (length (now known) ≡ stampLong) × (length (now m) ≡ stampLong) × (me < stampLong) ⌝ }
-    requires { ⌜ T (every (λ x. ltb x word) (merge (now known) (now m))) ⌝ }
-    ensures { λ r. ⌜ r ≡ ownRefusal (now (known .entry)) me (now (m .entry)) ⌝ }
+    requires known_len { (length known.now ≡ stamp_long) × (length m.now ≡ stamp_long) × (me < stamp_long) }
+    requires t { T (every (λ x. ltb x word) (merge known.now m.now)) }
+    ensures { result ≡ own_refusal known.now me m.now }
 {
     if known[me] < m[me] {
         return AHEAD;
@@ -100,9 +78,9 @@ fn own_refusal(known: &[u64], me: usize, m: &[u64]) -> u64
 
 // The refusal that needs no record: by the head's screens and sender, then by its stamp.
 pub fn stamp_refusal(b: &[u64], sender: u64, screens: u64, m: &[u64]) -> u64
-    requires { ⌜ T (lawful (now b)) ⌝ }
-    requires { ⌜ (sender < screens) × T (stampFits screens (now m)) ⌝ }
-    ensures { λ r. ⌜ r ≡ stampRefusal (bookOf (now (b .entry))) sender screens (now (m .entry)) ⌝ }
+    requires t { T (lawful b.now) }
+    requires sender_lt_screens { (sender < screens) × T (stamp_fits screens m.now) }
+    ensures { result ≡ stamp_refusal (book_of b.now) sender screens m.now }
 {
     if screens != screens_of(b) {
         return WRONG_HOUSE;
@@ -122,10 +100,10 @@ pub fn stamp_refusal(b: &[u64], sender: u64, screens: u64, m: &[u64]) -> u64
 
 // Row j set to m, and our own row to the merged stamp. Row j is at most m, so merging sets it.
 pub fn raise_rows(b: &mut [u64], j: usize, m: &[u64])
-    requires { ⌜ Held (now b) ⌝ }
-    requires { ⌜ Raisable (bookOf (now b)) j (now m) ⌝ }
-    ensures { λ _. ⌜ now (b .exit)
-        ≡ wordsOf (withTable (raisedRows (bookOf (now (b .entry))) j (now (m .entry))) (bookOf (now (b .entry)))) ⌝ }
+    requires held { Held b.old }
+    requires raisable { Raisable (book_of b.old) j m.now }
+    ensures { b.new
+        ≡ words_of (with_table (raised_rows (book_of b.old) j m.now) (book_of b.old)) }
 {
     let me = screen_of(b) as usize;
     raise_row(b, j, m);
@@ -145,13 +123,13 @@ fn merge_at(
     m: Parts,
     known: &[u64],
 )
-    requires { ⌜ (a ≤ e) × (e ≤ length (now b)) × ((logged + new) * rowLong ≤ e - a) ⌝ }
-    requires { ⌜ Coming (now msg) n count (listOf m) (now known) new ⌝ }
-    requires { ⌜ Fresh (unknowns (now known) (recordsIn (now msg))) (recordsAt logged (mid a (e - a) (now b))) ⌝ }
-    ensures { λ _. ⌜ now (b .exit)
-        ≡ patch a (e - a) (now (b .entry))
-        (merged (unknowns (now (known .entry)) (recordsIn (now (msg .entry)))) logged new
-        (mid a (e - a) (now (b .entry)))) ⌝ }
+    requires a_le_e { (a ≤ e) × (e ≤ length b.old) × ((logged + new) * row_long ≤ e - a) }
+    requires coming { Coming msg.now n count (list_of m) known.now new }
+    requires fresh { Fresh (unknowns known.now (records_in msg.now)) (records_at logged (mid a (e - a) b.old)) }
+    ensures { b.new
+        ≡ patch a (e - a) b.old
+        (merged (unknowns known.now (records_in msg.now)) logged new
+        (mid a (e - a) b.old)) }
 {
     merge_new(&mut b[a..e], logged, new, msg, count, n, m, known);
 }
@@ -166,13 +144,13 @@ pub fn take_new(
     m: Parts,
     known: &[u64],
 )
-    requires { ⌜ Held (now b) ⌝ }
-    requires { ⌜ Coming (now msg) n count (listOf m) (now known) new ⌝ }
-    requires { ⌜ Fresh (unknowns (now known) (recordsIn (now msg))) ((bookOf (now b)) .log) ⌝ }
-    requires { ⌜ length ((bookOf (now b)) .log) + new ≤ logRoom ⌝ }
-    ensures { λ _. ⌜ now (b .exit)
-        ≡ wordsOf (withLog (gathered (unknowns (now (known .entry)) (recordsIn (now (msg .entry))))
-        ((bookOf (now (b .entry))) .log)) (bookOf (now (b .entry)))) ⌝ }
+    requires held { Held b.old }
+    requires coming { Coming msg.now n count (list_of m) known.now new }
+    requires fresh { Fresh (unknowns known.now (records_in msg.now)) (book_of b.old).log }
+    requires len_bound { length (book_of b.old).log + new ≤ log_room }
+    ensures { b.new
+        ≡ words_of (with_log (gathered (unknowns known.now (records_in msg.now))
+        (book_of b.old).log) (book_of b.old)) }
 {
     let logged = logged_of(b);
     merge_at(
@@ -191,6 +169,7 @@ pub fn take_new(
 }
 
 // The reply that stops a gossip; or its head and the number of its new records, which may be taken.
+#[derive(Drop)]
 pub enum GossipStop {
     Stopped(Reply),
     Clear {
@@ -214,16 +193,16 @@ fn take_in(
     m: Parts,
     old: &[u64],
 ) -> u64
-    requires { ⌜ T (lawful (now b)) ⌝ }
-    requires { ⌜ Heard (now msg) j n count (listOf m) ⌝ }
-    requires { ⌜ GossipDone (bookOf (now b)) (messageOf (now msg)) ⌝ }
-    requires { ⌜ now old ≡ known (bookOf (now b)) ⌝ }
-    requires { ⌜ new ≡ length (newOnes (bookOf (now b)) (messageOf (now msg))) ⌝ }
-    ensures { λ _. ⌜ now (b .exit) ≡ wordsOf (hearBook (bookOf (now (b .entry))) (messageOf (now (msg .entry)))) ⌝ }
-    ensures { λ r. ⌜ r ≡ length
-        (nowApplied (bookOf (now (b .entry)))
-        (merge (known (bookOf (now (b .entry)))) (messageOf (now (msg .entry)) .stamp))
-        (newOnes (bookOf (now (b .entry))) (messageOf (now (msg .entry))))) ⌝ }
+    requires t { T (lawful b.old) }
+    requires heard { Heard msg.now j n count (list_of m) }
+    requires gossip_done { GossipDone (book_of b.old) (message_of msg.now) }
+    requires value { old.now ≡ known (book_of b.old) }
+    requires value_2 { new ≡ length (new_ones (book_of b.old) (message_of msg.now)) }
+    ensures b_after { b.new ≡ words_of (hear_book (book_of b.old) (message_of msg.now)) }
+    ensures value_3 { result ≡ length
+        (now_applied (book_of b.old)
+        (merge (known (book_of b.old)) (message_of msg.now).stamp)
+        (new_ones (book_of b.old) (message_of msg.now))) }
 {
     let before = ready_of(b);
     let s = list_of(m);
@@ -241,11 +220,11 @@ fn stop_records(
     count: u64,
     stamp: Parts,
 ) -> GossipStop
-    requires { ⌜ T (lawful (now b)) ⌝ }
-    requires { ⌜ Heard (now msg) sender screens count (listOf stamp) ⌝ }
-    requires { ⌜ stampRefusal (bookOf (now b)) sender screens (listOf stamp) ≡ 0 ⌝ }
-    ensures { λ r. ⌜ StopsGossip (bookOf (now (b .entry))) (messageOf (now (msg .entry))) sender screens count
-        stamp r ⌝ }
+    requires t { T (lawful b.now) }
+    requires heard { Heard msg.now sender screens count (list_of stamp) }
+    requires stamp_value { stamp_refusal (book_of b.now) sender screens (list_of stamp) ≡ 0 }
+    ensures { StopsGossip (book_of b.now) (message_of msg.now) sender screens count
+        stamp result }
 {
     let known = known_of(b);
     let look = look_at(msg, count as usize, screens as usize, stamp, &known);
@@ -274,10 +253,10 @@ pub fn stop_gossip(
     count: u64,
     stamp: Parts,
 ) -> GossipStop
-    requires { ⌜ T (lawful (now b)) ⌝ }
-    requires { ⌜ Heard (now msg) sender screens count (listOf stamp) ⌝ }
-    ensures { λ r. ⌜ StopsGossip (bookOf (now (b .entry))) (messageOf (now (msg .entry))) sender screens count
-        stamp r ⌝ }
+    requires t { T (lawful b.now) }
+    requires heard { Heard msg.now sender screens count (list_of stamp) }
+    ensures { StopsGossip (book_of b.now) (message_of msg.now) sender screens count
+        stamp result }
 {
     let s = list_of(stamp);
     let first = stamp_refusal(b, sender, screens, &s);
@@ -297,12 +276,12 @@ pub fn take_gossip(
     stamp: Parts,
     new: usize,
 ) -> Reply
-    requires { ⌜ T (lawful (now b)) ⌝ }
-    requires { ⌜ Heard (now msg) sender screens count (listOf stamp) ⌝ }
-    requires { ⌜ firstOf (gossipStops (bookOf (now b)) (messageOf (now msg))) ≡ none ⌝ }
-    requires { ⌜ new ≡ length (newOnes (bookOf (now b)) (messageOf (now msg))) ⌝ }
-    ensures { λ r. ⌜ Promise (lentOf (gossipStep (bookOf (now (b .entry))) (messageOf (now (msg .entry))))) r
-        (now (b .exit)) ⌝ }
+    requires t { T (lawful b.old) }
+    requires heard { Heard msg.now sender screens count (list_of stamp) }
+    requires msg_value { first_of (gossip_stops (book_of b.old) (message_of msg.now)) ≡ none }
+    requires value { new ≡ length (new_ones (book_of b.old) (message_of msg.now)) }
+    ensures { Promise (lent_of (gossip_step (book_of b.old) (message_of msg.now))) result
+        b.new }
 {
     let known = known_of(b);
     let applied = take_in(

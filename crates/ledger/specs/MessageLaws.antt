@@ -1,35 +1,33 @@
 -- Laws of messages: the field rules as facts, by name. Assumes nothing.
-use Prim.Native.Nat.{ℕ, _≤_}
-use mathlib.Core.Bool.{Bool}
-use lib.Dec.{T, leb→le}
-use lib.ListN.{length}
-use Rattle·lists.specs.TestLaws.{_∈_, every-at, given}
-use Rattle·lists.specs.Order.{rising}
-use Rattle·limits.specs.Limits.{logRoom}
-use Rattle·stamp.specs.Laws.{Fits, fits}
-use Rattle·stamp.specs.Stamp.{part}
-use Rattle·ledger·specs.specs.Message.{Message, inRange, messageRules, messageFits}
-use Rattle·ledger·specs.specs.Record.{Record, place, isKnown, recordFits}
-use Rattle·ledger·specs.specs.RecordLaws.{known-le}
+use Rattle.std.specs.Prelude.{ℕ, ◌≤◌, Bool, T, length}
+use Rattle.std.proofs.Common.{leb→le}
+use Rattle.lists.specs.TestLaws.{◌∈◌, every-at, given}
+use Rattle.lists.specs.Order.{rising}
+use Rattle.limits.specs.Limits.{log_room}
+use Rattle.stamp.specs.Laws.{Fits, fits}
+use Rattle.stamp.specs.Stamp.{part}
+use Rattle.ledger.specs.Message.{Message, in_range, message_rules, message_fits}
+use Rattle.ledger.specs.Record.{Record, place, is_known, record_fits}
+use Rattle.ledger.specs.RecordLaws.{known_le}
 
-pub record Readable (bodyFits : ℕ → Bool) (m : Message) : Type 0 where
-  pub range : T (inRange (m .sender) (m .screens))
-  pub stamp-fits : Fits (m .screens) (m .stamp)
-  pub few : length (m .records) ≤ logRoom
-  pub order : T (rising place (m .records))
-  pub reached : (r : Record) → r ∈ m .records → r .number ≤ part (m .stamp) (r .origin)
-  pub obey : (r : Record) → r ∈ m .records → T (recordFits bodyFits (m .screens) r)
+pub record Readable (body_fits : ℕ → Bool) (m : Message) : Type 0 where
+  pub range : T (in_range m.sender m.screens)
+  pub stamp-fits : Fits m.screens m.stamp
+  pub few : length m.records ≤ log_room
+  pub order : T (rising place m.records)
+  pub reached : (r : Record) → r ∈ m.records → r.number ≤ part m.stamp r.origin
+  pub obey : (r : Record) → r ∈ m.records → T (record_fits body_fits m.screens r)
 
-pub readable : (bodyFits : ℕ → Bool) (m : Message) → T (messageFits bodyFits m) → Readable bodyFits m
-unfolding messageFits
-readable bodyFits m t =
-    given (messageRules bodyFits m) t
+pub readable : (body_fits : ℕ → Bool) (m : Message) → T (message_fits body_fits m) → Readable body_fits m
+unfolding message_fits
+readable body_fits m t =
+    given (message_rules body_fits m) t
     (λ range stamp-fits few order reached obey.
     record {
       range = range;
-      stamp-fits = fits (m .screens) (m .stamp) stamp-fits;
-      few = leb→le (length (m .records)) logRoom few;
+      stamp-fits = fits m.screens m.stamp stamp-fits;
+      few = leb→le (length m.records) log_room few;
       order = order;
-      reached = λ r n. known-le (m .stamp) r (every-at (isKnown (m .stamp)) (m .records) reached n);
-      obey = λ r n. every-at (recordFits bodyFits (m .screens)) (m .records) obey n;
+      reached = λ r n. known_le m.stamp r (every-at (is_known m.stamp) m.records reached n);
+      obey = λ r n. every-at (record_fits body_fits m.screens) m.records obey n;
     })

@@ -1,96 +1,95 @@
 -- A book with one of its parts changed; and the book of nothing, from which one is read piece by piece. Assumes
 -- nothing.
-use Prim.Native.Nat.{ℕ}
-use mathlib.Core.List.{List, []}
-use Rattle·stamp.specs.Stamp.{Stamp}
-use Rattle·tally.specs.declared.Standing.{Standing}
-use Rattle·tally.specs.declared.Tap.{Tap}
-use Rattle·ledger.specs.Record.{Record}
-use Rattle·meaning.specs.Book.{Book}
+use Rattle.std.specs.Prelude.{ℕ, List, []}
+use Rattle.stamp.specs.Stamp.{Stamp}
+use Rattle.tally.specs.declared.Standing.{Standing}
+use Rattle.tally.specs.declared.Tap.{Tap}
+use Rattle.ledger.specs.Record.{Record}
+use Rattle.meaning.specs.Book.{Book}
 
-abbrev pub noBook : Book
-noBook = record { me = 0; screens = 0; table = []; value = []; log = []; counted = []; prompts = [] }
+abbrev pub no_book : Book
+no_book = record { me = 0; screens = 0; table = []; value = []; log = []; counted = []; prompts = [] }
 
-abbrev pub withMe : ℕ → Book → Book
-withMe i b =
+abbrev pub with_me : ℕ → Book → Book
+with_me i b =
     record {
       me = i;
-      screens = b .screens;
-      table = b .table;
-      value = b .value;
-      log = b .log;
-      counted = b .counted;
-      prompts = b .prompts;
+      screens = b.screens;
+      table = b.table;
+      value = b.value;
+      log = b.log;
+      counted = b.counted;
+      prompts = b.prompts;
     }
 
-abbrev pub withScreens : ℕ → Book → Book
-withScreens n b =
+abbrev pub with_screens : ℕ → Book → Book
+with_screens n b =
     record {
-      me = b .me;
+      me = b.me;
       screens = n;
-      table = b .table;
-      value = b .value;
-      log = b .log;
-      counted = b .counted;
-      prompts = b .prompts;
+      table = b.table;
+      value = b.value;
+      log = b.log;
+      counted = b.counted;
+      prompts = b.prompts;
     }
 
-abbrev pub withTable : List Stamp → Book → Book
-withTable rows b =
+abbrev pub with_table : List Stamp → Book → Book
+with_table rows b =
     record {
-      me = b .me;
-      screens = b .screens;
+      me = b.me;
+      screens = b.screens;
       table = rows;
-      value = b .value;
-      log = b .log;
-      counted = b .counted;
-      prompts = b .prompts;
+      value = b.value;
+      log = b.log;
+      counted = b.counted;
+      prompts = b.prompts;
     }
 
-abbrev pub withValue : Stamp → Book → Book
-withValue s b =
+abbrev pub with_value : Stamp → Book → Book
+with_value s b =
     record {
-      me = b .me;
-      screens = b .screens;
-      table = b .table;
+      me = b.me;
+      screens = b.screens;
+      table = b.table;
       value = s;
-      log = b .log;
-      counted = b .counted;
-      prompts = b .prompts;
+      log = b.log;
+      counted = b.counted;
+      prompts = b.prompts;
     }
 
-abbrev pub withLog : List Record → Book → Book
-withLog rs b =
+abbrev pub with_log : List Record → Book → Book
+with_log rs b =
     record {
-      me = b .me;
-      screens = b .screens;
-      table = b .table;
-      value = b .value;
+      me = b.me;
+      screens = b.screens;
+      table = b.table;
+      value = b.value;
       log = rs;
-      counted = b .counted;
-      prompts = b .prompts;
+      counted = b.counted;
+      prompts = b.prompts;
     }
 
-abbrev pub withCounted : List Tap → Book → Book
-withCounted ts b =
+abbrev pub with_counted : List Tap → Book → Book
+with_counted ts b =
     record {
-      me = b .me;
-      screens = b .screens;
-      table = b .table;
-      value = b .value;
-      log = b .log;
+      me = b.me;
+      screens = b.screens;
+      table = b.table;
+      value = b.value;
+      log = b.log;
       counted = ts;
-      prompts = b .prompts;
+      prompts = b.prompts;
     }
 
-abbrev pub withPrompts : List Standing → Book → Book
-withPrompts ss b =
+abbrev pub with_prompts : List Standing → Book → Book
+with_prompts ss b =
     record {
-      me = b .me;
-      screens = b .screens;
-      table = b .table;
-      value = b .value;
-      log = b .log;
-      counted = b .counted;
+      me = b.me;
+      screens = b.screens;
+      table = b.table;
+      value = b.value;
+      log = b.log;
+      counted = b.counted;
       prompts = ss;
     }

@@ -1,55 +1,34 @@
 // The lent book: where each piece stands on the slice, and every way in which a held book is read and changed.
-use limits::BOOK_ROOM;
-use limits::LOG_ROOM;
-use limits::MOST;
-use limits::PARTS;
-use log::BODY;
-use log::LABEL;
-use log::NUMBER;
-use log::ORIGIN;
-use log::ROW;
-use log::find_body;
-use log::lowest;
-use log::make_row;
-use log_edit::drop_rows;
-use log_edit::put_one;
-use prompts::PROMPT_WORDS;
-use prompts::note;
-use prompts::standing_at;
-use stamp::Parts;
-use stamp::list_of;
-use stamp::merge_into;
-use stamp::parts_at;
+ghost use Rattle.std.specs.Prelude.{◌≡◌, not, [], ◌∷◌, ◌+◌, ◌-◌, ◌*◌, ◌≤◌, ◌<◌, T, length, get_or, set};
+ghost use Rattle.lists.specs.Order.{rising, insert};
+ghost use Rattle.lists.specs.Part.{mid, patch};
+ghost use Rattle.limits.specs.Limits.{parts, most, prompt_count, log_room, book_room, count_limit};
+ghost use Rattle.stamp.specs.Parts.{list_of};
+ghost use Rattle.stamp.specs.Stamp.{merge, replace};
+ghost use Rattle.tally.specs.Standing.{CountsFit, among, blank};
+ghost use Rattle.tally.specs.Tap.{fields, tap_of};
+ghost use Rattle.ledger.specs.Log.{gathered, remaining};
+ghost use Rattle.log.specs.First.{first_with};
+ghost use Rattle.log.specs.Lowest.{lowest_from};
+ghost use Rattle.log.specs.Region.{row_long, record_at, records_at};
+ghost use Rattle.log_edit.specs.Merge.{Fresh, merged, stayers, dropped};
+ghost use Rattle.taps.specs.Region.{taps_at, inserted_at};
+ghost use Rattle.prompts.specs.Region.{prompt_words, standings_at, standing_words, noted_at};
+ghost use Rattle.meaning.specs.Book.{row, known, ready, standing_at};
+ghost use Rattle.lent.specs.Held.{Held};
+ghost use Rattle.lent.specs.Rows.{no_record};
+ghost use Rattle.lent.specs.Changes.{Insertable};
+ghost use Rattle.lent.specs.With.{with_table, with_value, with_log, with_counted, with_prompts};
+ghost use Rattle.lent.specs.Words.{Logged, Table, Value, Log, Counted, Prompts, size, from, book_long, piece};
+ghost use Rattle.lent.specs.Words.{book_of, words_of};
+
+use limits::{BOOK_ROOM, LOG_ROOM, MOST, PARTS};
+use log::{BODY, LABEL, NUMBER, ORIGIN, ROW, find_body, lowest, make_row};
+use log_edit::{drop_rows, put_one};
+use prompts::{PROMPT_WORDS, note, standing_at};
+use stamp::{Parts, list_of, merge_into, parts_at};
 use tally::Standing;
-use taps::has;
-use taps::insert_word;
-ghost use mathlib.Core.Path.{_≡_};
-ghost use mathlib.Core.Bool.{not};
-ghost use mathlib.Core.List.{[], _∷_};
-ghost use Prim.Native.Nat.{_+_, _-_, _*_, _≤_, _<_};
-ghost use lib.Dec.{T};
-ghost use lib.ListN.{length, getD, set};
-ghost use Rattle·lists.specs.Order.{rising, insert};
-ghost use Rattle·lists.specs.Part.{mid, patch};
-ghost use Rattle·limits.specs.Limits.{parts, most, promptCount, logRoom, bookRoom, countLimit};
-ghost use Rattle·stamp.specs.Parts.{listOf};
-ghost use Rattle·stamp.specs.Stamp.{merge, replace};
-ghost use Rattle·tally.specs.Standing.{CountsFit, among, blank};
-ghost use Rattle·tally.specs.Tap.{fields, tapOf};
-ghost use Rattle·ledger.specs.Log.{gathered, remaining};
-ghost use Rattle·log.specs.First.{firstWith};
-ghost use Rattle·log.specs.Lowest.{lowestFrom};
-ghost use Rattle·log.specs.Region.{rowLong, recordAt, recordsAt};
-ghost use Rattle·log_edit.specs.Merge.{Fresh, merged, stayers, dropped};
-ghost use Rattle·taps.specs.Region.{tapsAt, insertedAt};
-ghost use Rattle·prompts.specs.Region.{promptWords, standingsAt, standingWords, notedAt};
-ghost use Rattle·meaning.specs.Book.{row, known, ready, standingAt};
-ghost use Rattle·lent·specs.specs.Held.{Held};
-ghost use Rattle·lent·specs.specs.Rows.{noRecord};
-ghost use Rattle·lent·specs.specs.Changes.{Insertable};
-ghost use Rattle·lent·specs.specs.With.{withTable, withValue, withLog, withCounted, withPrompts};
-ghost use Rattle·lent·specs.specs.Words.{Logged, Table, Value, Log, Counted, Prompts, size, from, bookLong, piece};
-ghost use Rattle·lent·specs.specs.Words.{bookOf, wordsOf};
+use taps::{has, insert_word};
 
 // Screen i, and N.
 pub const SCREEN: usize = 0;
@@ -80,119 +59,119 @@ pub const BOOK: usize = PROMPTS + PROMPT_WORDS;
 
 // The words from a up to e.
 fn part(b: &[u64], a: usize, e: usize) -> &[u64]
-    requires { ⌜ (a ≤ e) × (e ≤ length (now b)) ⌝ }
-    ensures { λ r. ⌜ now r ≡ mid a (e - a) (now (b .entry)) ⌝ }
+    requires { (a ≤ e) × (e ≤ length b.now) }
+    ensures { result.now ≡ mid a (e - a) b.now }
 {
     &b[a..e]
 }
 
 // The words of each piece, of a slice of the one length, whatever it holds.
 pub fn table_words(b: &[u64]) -> &[u64]
-    requires { ⌜ length (now b) ≡ bookLong ⌝ }
-    ensures { λ r. ⌜ (now r ≡ piece Table (now (b .entry))) × (length (now r) ≡ size Table) ⌝ }
+    requires { length b.now ≡ book_long }
+    ensures { (result.now ≡ piece Table b.now) × (length result.now ≡ size Table) }
 {
     part(b, TABLE, VALUE)
 }
 
 pub fn value_words(b: &[u64]) -> &[u64]
-    requires { ⌜ length (now b) ≡ bookLong ⌝ }
-    ensures { λ r. ⌜ (now r ≡ piece Value (now (b .entry))) × (length (now r) ≡ size Value) ⌝ }
+    requires { length b.now ≡ book_long }
+    ensures { (result.now ≡ piece Value b.now) × (length result.now ≡ size Value) }
 {
     part(b, VALUE, LOG)
 }
 
 pub fn log_words(b: &[u64]) -> &[u64]
-    requires { ⌜ length (now b) ≡ bookLong ⌝ }
-    ensures { λ r. ⌜ (now r ≡ piece Log (now (b .entry))) × (length (now r) ≡ size Log) ⌝ }
+    requires { length b.now ≡ book_long }
+    ensures { (result.now ≡ piece Log b.now) × (length result.now ≡ size Log) }
 {
     part(b, LOG, COUNTED)
 }
 
 pub fn counted_words(b: &[u64]) -> &[u64]
-    requires { ⌜ length (now b) ≡ bookLong ⌝ }
-    ensures { λ r. ⌜ (now r ≡ piece Counted (now (b .entry))) × (length (now r) ≡ size Counted) ⌝ }
+    requires { length b.now ≡ book_long }
+    ensures { (result.now ≡ piece Counted b.now) × (length result.now ≡ size Counted) }
 {
     part(b, COUNTED, PROMPTS)
 }
 
 pub fn prompt_words(b: &[u64]) -> &[u64]
-    requires { ⌜ length (now b) ≡ bookLong ⌝ }
-    ensures { λ r. ⌜ (now r ≡ piece Prompts (now (b .entry))) × (length (now r) ≡ size Prompts) ⌝ }
+    requires { length b.now ≡ book_long }
+    ensures { (result.now ≡ piece Prompts b.now) × (length result.now ≡ size Prompts) }
 {
     part(b, PROMPTS, BOOK)
 }
 
 // The screen's number.
 pub fn screen_of(b: &[u64]) -> u64
-    requires { ⌜ Held (now b) ⌝ }
-    ensures { λ r. ⌜ r ≡ (bookOf (now (b .entry))) .me ⌝ }
+    requires { Held b.now }
+    ensures { result ≡ (book_of b.now).me }
 {
     b[SCREEN]
 }
 
 // How many screens the house has.
 pub fn screens_of(b: &[u64]) -> u64
-    requires { ⌜ Held (now b) ⌝ }
-    ensures { λ r. ⌜ (r ≡ (bookOf (now (b .entry))) .screens) × (r ≤ most) ⌝ }
+    requires { Held b.now }
+    ensures { (result ≡ (book_of b.now).screens) × (result ≤ most) }
 {
     b[SCREENS]
 }
 
 // How many records the log has.
 pub fn logged_of(b: &[u64]) -> usize
-    requires { ⌜ Held (now b) ⌝ }
-    ensures { λ r. ⌜ (r ≡ length ((bookOf (now (b .entry))) .log)) × (r ≤ logRoom) × (r < countLimit) ⌝ }
+    requires { Held b.now }
+    ensures { (result ≡ length (book_of b.now).log) × (result ≤ log_room) × (result < count_limit) }
 {
     b[LOGGED] as usize
 }
 
 // How many taps are counted.
 fn taps_of(b: &[u64]) -> usize
-    requires { ⌜ Held (now b) ⌝ }
-    ensures { λ r. ⌜ (r ≡ length ((bookOf (now (b .entry))) .counted)) × (r ≤ bookRoom) ⌝ }
+    requires { Held b.now }
+    ensures { (result ≡ length (book_of b.now).counted) × (result ≤ book_room) }
 {
     b[TAPS] as usize
 }
 
 // Row j of the table.
 pub fn row_of(b: &[u64], j: usize) -> [u64; PARTS]
-    requires { ⌜ Held (now b) ⌝ }
-    requires { ⌜ j < (bookOf (now b)) .screens ⌝ }
-    ensures { λ r. ⌜ (r ≡ row (bookOf (now (b .entry))) j) × (length r ≡ parts) ⌝ }
+    requires held { Held b.now }
+    requires j_bound { j < (book_of b.now).screens }
+    ensures { (result ≡ row (book_of b.now) j) × (length result ≡ parts) }
 {
     list_of(parts_at(b, TABLE + j * PARTS))
 }
 
 // The known stamp.
 pub fn known_of(b: &[u64]) -> [u64; PARTS]
-    requires { ⌜ Held (now b) ⌝ }
-    requires { ⌜ (bookOf (now b)) .me < (bookOf (now b)) .screens ⌝ }
-    ensures { λ r. ⌜ (r ≡ known (bookOf (now (b .entry)))) × (length r ≡ parts) ⌝ }
+    requires held { Held b.now }
+    requires b_bound { (book_of b.now).me < (book_of b.now).screens }
+    ensures { (result ≡ known (book_of b.now)) × (length result ≡ parts) }
 {
     row_of(b, screen_of(b) as usize)
 }
 
 // The ready stamp.
 pub fn ready_of(b: &[u64]) -> [u64; PARTS]
-    requires { ⌜ Held (now b) ⌝ }
-    requires { ⌜ (bookOf (now b)) .me < (bookOf (now b)) .screens ⌝ }
-    ensures { λ r. ⌜ (r ≡ ready (bookOf (now (b .entry)))) × (length r ≡ parts) ⌝ }
+    requires held { Held b.now }
+    requires b_bound { (book_of b.now).me < (book_of b.now).screens }
+    ensures { (result ≡ ready (book_of b.now)) × (length result ≡ parts) }
 {
     known_of(b)
 }
 
 // The value stamp.
 pub fn value_of(b: &[u64]) -> Parts
-    requires { ⌜ Held (now b) ⌝ }
-    ensures { λ r. ⌜ listOf r ≡ (bookOf (now (b .entry))) .value ⌝ }
+    requires { Held b.now }
+    ensures { list_of result ≡ (book_of b.now).value }
 {
     parts_at(b, VALUE)
 }
 
 // The row at a place.
 fn row_at(b: &[u64], at: usize) -> [u64; ROW]
-    requires { ⌜ at + rowLong ≤ length (now b) ⌝ }
-    ensures { λ r. ⌜ (recordAt r ≡ recordAt (mid at rowLong (now (b .entry)))) × (length r ≡ rowLong) ⌝ }
+    requires { at + row_long ≤ length b.now }
+    ensures { (record_at result ≡ record_at (mid at row_long b.now)) × (length result ≡ row_long) }
 {
     make_row(
         b[at + ORIGIN],
@@ -204,44 +183,44 @@ fn row_at(b: &[u64], at: usize) -> [u64; ROW]
 
 // The row of the log's i-th record.
 pub fn log_row(b: &[u64], i: usize) -> [u64; ROW]
-    requires { ⌜ Held (now b) ⌝ }
-    requires { ⌜ i < length ((bookOf (now b)) .log) ⌝ }
-    ensures { λ r. ⌜ (recordAt r ≡ getD ((bookOf (now (b .entry))) .log) i noRecord) × (length r ≡ rowLong) ⌝ }
+    requires held { Held b.now }
+    requires i_in_bounds { i < length (book_of b.now).log }
+    ensures { (record_at result ≡ get_or (book_of b.now).log i no_record) × (length result ≡ row_long) }
 {
     row_at(b, LOG + i * ROW)
 }
 
 // The log's first record with body w, or past its last.
 pub fn find_logged(b: &[u64], w: u64) -> usize
-    requires { ⌜ Held (now b) ⌝ }
-    ensures { λ i. ⌜ i ≡ firstWith w ((bookOf (now (b .entry))) .log) ⌝ }
+    requires { Held b.now }
+    ensures { result ≡ first_with w (book_of b.now).log }
 {
     find_body(log_words(b), logged_of(b), w)
 }
 
 // Whether the tap of w is counted.
 pub fn is_counted(b: &[u64], w: u64) -> bool
-    requires { ⌜ Held (now b) ⌝ }
-    ensures { λ r. ⌜ r ≡ among ((bookOf (now (b .entry))) .counted) (tapOf w) ⌝ }
+    requires { Held b.now }
+    ensures { result ≡ among (book_of b.now).counted (tap_of w) }
 {
     has(counted_words(b), taps_of(b), w)
 }
 
 // The standing of a prompt.
 pub fn standing_of(b: &[u64], prompt: u64) -> Standing
-    requires { ⌜ Held (now b) ⌝ }
-    requires { ⌜ prompt < promptCount ⌝ }
-    ensures { λ s. ⌜ s ≡ standingAt (bookOf (now (b .entry))) prompt ⌝ }
+    requires held { Held b.now }
+    requires prompt_lt_prompt_count { prompt < prompt_count }
+    ensures { result ≡ standing_at (book_of b.now) prompt }
 {
     standing_at(prompt_words(b), prompt)
 }
 
 // The known stamp met with each row of the table.
 fn low_of(b: &[u64]) -> [u64; PARTS]
-    requires { ⌜ Held (now b) ⌝ }
-    requires { ⌜ (bookOf (now b)) .me < (bookOf (now b)) .screens ⌝ }
-    ensures { λ r. ⌜ (r ≡ lowestFrom (known (bookOf (now (b .entry)))) ((bookOf (now (b .entry))) .table))
-        × (length r ≡ parts) ⌝ }
+    requires held { Held b.now }
+    requires b_bound { (book_of b.now).me < (book_of b.now).screens }
+    ensures { (result ≡ lowest_from (known (book_of b.now)) (book_of b.now).table)
+        × (length result ≡ parts) }
 {
     let mut low = known_of(b);
     lowest(table_words(b), screens_of(b) as usize, &mut low);
@@ -250,30 +229,30 @@ fn low_of(b: &[u64]) -> [u64; PARTS]
 
 // A stamp merged into the one that stands from a up to e.
 fn merge_at(b: &mut [u64], a: usize, e: usize, s: &[u64])
-    requires { ⌜ (a ≤ e) × (e ≤ length (now b)) × (length (now s) ≡ e - a) ⌝ }
-    ensures { λ _. ⌜ now (b .exit)
-        ≡ patch a (e - a) (now (b .entry)) (merge (mid a (e - a) (now (b .entry))) (now (s .entry))) ⌝ }
+    requires { (a ≤ e) × (e ≤ length b.old) × (length s.now ≡ e - a) }
+    ensures { b.new
+        ≡ patch a (e - a) b.old (merge (mid a (e - a) b.old) s.now) }
 {
     merge_into(&mut b[a..e], s);
 }
 
 // A stamp merged into the value stamp.
 pub fn merge_value(b: &mut [u64], s: &[u64])
-    requires { ⌜ Held (now b) ⌝ }
-    requires { ⌜ length (now s) ≡ parts ⌝ }
-    ensures { λ _. ⌜ now (b .exit)
-        ≡ wordsOf (withValue (merge (now (s .entry)) ((bookOf (now (b .entry))) .value)) (bookOf (now (b .entry)))) ⌝ }
+    requires held { Held b.old }
+    requires s_len { length s.now ≡ parts }
+    ensures { b.new
+        ≡ words_of (with_value (merge s.now (book_of b.old).value) (book_of b.old)) }
 {
     merge_at(b, VALUE, LOG, s);
 }
 
 // A stamp merged into row j of the table.
 pub fn raise_row(b: &mut [u64], j: usize, m: &[u64])
-    requires { ⌜ Held (now b) ⌝ }
-    requires { ⌜ (j < (bookOf (now b)) .screens) × (length (now m) ≡ parts) ⌝ }
-    ensures { λ _. ⌜ now (b .exit)
-        ≡ wordsOf (withTable (set ((bookOf (now (b .entry))) .table) j
-        (merge (row (bookOf (now (b .entry))) j) (now (m .entry)))) (bookOf (now (b .entry)))) ⌝ }
+    requires held { Held b.old }
+    requires j_bound { (j < (book_of b.old).screens) × (length m.now ≡ parts) }
+    ensures { b.new
+        ≡ words_of (with_table (set (book_of b.old).table j
+        (merge (row (book_of b.old) j) m.now)) (book_of b.old)) }
 {
     let at = TABLE + j * PARTS;
     merge_at(b, at, at + PARTS, m);
@@ -281,12 +260,12 @@ pub fn raise_row(b: &mut [u64], j: usize, m: &[u64])
 
 // The known stamp's own part replaced.
 pub fn raise_own(b: &mut [u64], number: u64)
-    requires { ⌜ Held (now b) ⌝ }
-    requires { ⌜ (bookOf (now b)) .me < (bookOf (now b)) .screens ⌝ }
-    ensures { λ _. ⌜ now (b .exit)
-        ≡ wordsOf (withTable (set ((bookOf (now (b .entry))) .table) ((bookOf (now (b .entry))) .me)
-        (replace (known (bookOf (now (b .entry)))) ((bookOf (now (b .entry))) .me) number))
-        (bookOf (now (b .entry)))) ⌝ }
+    requires held { Held b.old }
+    requires b_bound { (book_of b.old).me < (book_of b.old).screens }
+    ensures { b.new
+        ≡ words_of (with_table (set (book_of b.old).table (book_of b.old).me
+        (replace (known (book_of b.old)) (book_of b.old).me number))
+        (book_of b.old)) }
 {
     let i = screen_of(b) as usize;
     b[TABLE + i * PARTS + i] = number;
@@ -294,43 +273,42 @@ pub fn raise_own(b: &mut [u64], number: u64)
 
 // One more tap noted at its prompt, the prompts being the words from a up to e.
 fn note_at(b: &mut [u64], a: usize, e: usize, w: u64)
-    requires { ⌜ (a ≤ e) × (e ≤ length (now b)) × (e - a ≡ promptWords) ⌝ }
-    requires { ⌜ CountsFit (getD (standingsAt (mid a (e - a) (now b))) (tapOf w .prompt) blank) ⌝ }
-    ensures { λ _. ⌜ now (b .exit)
-        ≡ patch a (e - a) (now (b .entry))
-        (standingWords (notedAt (tapOf w) (standingsAt (mid a (e - a) (now (b .entry)))))) ⌝ }
+    requires a_le_e { (a ≤ e) × (e ≤ length b.old) × (e - a ≡ prompt_words) }
+    requires counts_fit { CountsFit (get_or (standings_at (mid a (e - a) b.old)) (tap_of w).prompt blank) }
+    ensures { b.new
+        ≡ patch a (e - a) b.old
+        (standing_words (noted_at (tap_of w) (standings_at (mid a (e - a) b.old)))) }
 {
     note(&mut b[a..e], w);
 }
 
 // The tap of w noted at its prompt.
 pub fn note_tap(b: &mut [u64], w: u64)
-    requires { ⌜ Held (now b) ⌝ }
-    requires { ⌜ CountsFit (standingAt (bookOf (now b)) (tapOf w .prompt)) ⌝ }
-    ensures { λ _. ⌜ now (b .exit)
-        ≡ wordsOf (withPrompts (notedAt (tapOf w) ((bookOf (now (b .entry))) .prompts)) (bookOf (now (b .entry)))) ⌝ }
+    requires held { Held b.old }
+    requires counts_fit { CountsFit (standing_at (book_of b.old) (tap_of w).prompt) }
+    ensures { b.new
+        ≡ words_of (with_prompts (noted_at (tap_of w) (book_of b.old).prompts) (book_of b.old)) }
 {
     note_at(b, PROMPTS, BOOK, w);
 }
 
 // A new word put in its place among the first n of those from a up to e.
 fn insert_at(b: &mut [u64], a: usize, e: usize, n: usize, w: u64)
-    requires { ⌜ (a ≤ e) × (e ≤ length (now b)) × (n < e - a) ⌝ }
-    requires { ⌜ T (rising fields (tapsAt n (mid a (e - a) (now b)))) ⌝ }
-    requires { ⌜ T (not (among (tapsAt n (mid a (e - a) (now b))) (tapOf w))) ⌝ }
-    ensures { λ _. ⌜ now (b .exit)
-        ≡ patch a (e - a) (now (b .entry)) (insertedAt n w (mid a (e - a) (now (b .entry)))) ⌝ }
+    requires a_le_e { (a ≤ e) × (e ≤ length b.old) × (n < e - a) }
+    requires t { T (rising fields (taps_at n (mid a (e - a) b.old))) }
+    requires t_2 { T (not (among (taps_at n (mid a (e - a) b.old)) (tap_of w))) }
+    ensures { b.new
+        ≡ patch a (e - a) b.old (inserted_at n w (mid a (e - a) b.old)) }
 {
     insert_word(&mut b[a..e], n, w);
 }
 
 // The tap of w put in its place among the counted ones.
 pub fn insert_tap(b: &mut [u64], w: u64)
-    requires { ⌜ Held (now b) ⌝ }
-    requires { ⌜ Insertable w (bookOf (now b)) ⌝ }
-    ensures { λ _. ⌜ now (b .exit)
-        ≡ wordsOf (withCounted (insert fields (tapOf w) ((bookOf (now (b .entry))) .counted)) (bookOf (now (b .entry))))
-        ⌝ }
+    requires held { Held b.old }
+    requires insertable { Insertable w (book_of b.old) }
+    ensures { b.new
+        ≡ words_of (with_counted (insert fields (tap_of w) (book_of b.old).counted) (book_of b.old)) }
 {
     let n = taps_of(b);
     insert_at(b, COUNTED, PROMPTS, n, w);
@@ -339,45 +317,45 @@ pub fn insert_tap(b: &mut [u64], w: u64)
 
 // Where the log begins, and where it ends: for who puts a message's records into it.
 pub fn log_start() -> usize
-    ensures { λ r. ⌜ r ≡ from Log ⌝ }
+    ensures { result ≡ from Log }
 {
     LOG
 }
 
 pub fn log_end() -> usize
-    ensures { λ r. ⌜ r ≡ from Log + size Log ⌝ }
+    ensures { result ≡ from Log + size Log }
 {
     COUNTED
 }
 
 // The number of the log's records.
 pub fn set_logged(b: &mut [u64], n: usize)
-    requires { ⌜ length (now b) ≡ bookLong ⌝ }
-    ensures { λ _. ⌜ now (b .exit) ≡ set (now (b .entry)) (from Logged) n ⌝ }
+    requires { length b.old ≡ book_long }
+    ensures { b.new ≡ set b.old (from Logged) n }
 {
     b[LOGGED] = n as u64;
 }
 
 // A row put among the first n rows of the words from a up to e.
 fn put_at(b: &mut [u64], a: usize, e: usize, n: usize, row: &[u64])
-    requires { ⌜ (a ≤ e) × (e ≤ length (now b)) × ((n + 1) * rowLong ≤ e - a) × (length (now row) ≡ rowLong) ⌝ }
-    requires { ⌜ Fresh (recordAt (now row) ∷ []) (recordsAt n (mid a (e - a) (now b))) ⌝ }
-    ensures { λ _. ⌜ now (b .exit)
-        ≡ patch a (e - a) (now (b .entry))
-        (merged (recordAt (now (row .entry)) ∷ []) n 1 (mid a (e - a) (now (b .entry)))) ⌝ }
+    requires a_le_e { (a ≤ e) × (e ≤ length b.old) × ((n + 1) * row_long ≤ e - a) × (length row.now ≡ row_long) }
+    requires fresh { Fresh (record_at row.now ∷ []) (records_at n (mid a (e - a) b.old)) }
+    ensures { b.new
+        ≡ patch a (e - a) b.old
+        (merged (record_at row.now ∷ []) n 1 (mid a (e - a) b.old)) }
 {
     put_one(&mut b[a..e], n, row);
 }
 
 // A row's record put into the log.
 pub fn put_record(b: &mut [u64], row: &[u64])
-    requires { ⌜ Held (now b) ⌝ }
-    requires { ⌜ length (now row) ≡ rowLong ⌝ }
-    requires { ⌜ Fresh (recordAt (now row) ∷ []) ((bookOf (now b)) .log) ⌝ }
-    requires { ⌜ length ((bookOf (now b)) .log) < logRoom ⌝ }
-    ensures { λ _. ⌜ now (b .exit)
-        ≡ wordsOf (withLog (gathered (recordAt (now (row .entry)) ∷ []) ((bookOf (now (b .entry))) .log))
-        (bookOf (now (b .entry)))) ⌝ }
+    requires held { Held b.old }
+    requires row_len { length row.now ≡ row_long }
+    requires fresh { Fresh (record_at row.now ∷ []) (book_of b.old).log }
+    requires b_len_bound { length (book_of b.old).log < log_room }
+    ensures { b.new
+        ≡ words_of (with_log (gathered (record_at row.now ∷ []) (book_of b.old).log)
+        (book_of b.old)) }
 {
     let n = logged_of(b);
     put_at(b, LOG, COUNTED, n, row);
@@ -386,24 +364,24 @@ pub fn put_record(b: &mut [u64], row: &[u64])
 
 // Of the first rows of the words from a up to e, those that may go dropped and the rest closed up. Gives how many stay.
 fn drop_at(b: &mut [u64], a: usize, e: usize, count: usize, s: &[u64], low: &[u64]) -> usize
-    requires { ⌜ (a ≤ e) × (e ≤ length (now b)) × (count * rowLong ≤ e - a) ⌝ }
-    requires { ⌜ length (now s) ≡ parts ⌝ }
-    ensures { λ _. ⌜ now (b .exit)
-        ≡ patch a (e - a) (now (b .entry))
-        (dropped (now (s .entry)) (now (low .entry)) count (mid a (e - a) (now (b .entry)))) ⌝ }
-    ensures { λ n. ⌜ n ≡ length
-        (stayers (now (s .entry)) (now (low .entry)) (recordsAt count (mid a (e - a) (now (b .entry))))) ⌝ }
+    requires a_le_e { (a ≤ e) × (e ≤ length b.old) × (count * row_long ≤ e - a) }
+    requires s_len { length s.now ≡ parts }
+    ensures b_after { b.new
+        ≡ patch a (e - a) b.old
+        (dropped s.now low.now count (mid a (e - a) b.old)) }
+    ensures value { result ≡ length
+        (stayers s.now low.now (records_at count (mid a (e - a) b.old))) }
 {
     drop_rows(&mut b[a..e], count, s, low)
 }
 
 // What is applied and known everywhere dropped from the log.
 pub fn drop_log(b: &mut [u64])
-    requires { ⌜ Held (now b) ⌝ }
-    requires { ⌜ (bookOf (now b)) .me < (bookOf (now b)) .screens ⌝ }
-    ensures { λ _. ⌜ now (b .exit)
-        ≡ wordsOf (withLog (remaining (ready (bookOf (now (b .entry)))) ((bookOf (now (b .entry))) .table)
-        ((bookOf (now (b .entry))) .log)) (bookOf (now (b .entry)))) ⌝ }
+    requires held { Held b.old }
+    requires b_bound { (book_of b.old).me < (book_of b.old).screens }
+    ensures { b.new
+        ≡ words_of (with_log (remaining (ready (book_of b.old)) (book_of b.old).table
+        (book_of b.old).log) (book_of b.old)) }
 {
     let ready = ready_of(b);
     let low = low_of(b);

@@ -1,38 +1,38 @@
 -- The numbers of the kinds of message, each once. Assumes nothing.
-use Prim.Native.Nat.{ℕ}
+use Rattle.std.specs.Prelude.{ℕ}
 
-abbrev pub headNumber : ℕ
-headNumber = 1
+abbrev pub head_number : ℕ
+head_number = 1
 
-abbrev pub recordNumber : ℕ
-recordNumber = 2
+abbrev pub record_number : ℕ
+record_number = 2
 
-abbrev pub tapNumber : ℕ
-tapNumber = 3
+abbrev pub tap_number : ℕ
+tap_number = 3
 
-abbrev pub questionNumber : ℕ
-questionNumber = 4
+abbrev pub question_number : ℕ
+question_number = 4
 
-abbrev pub takenNumber : ℕ
-takenNumber = 5
+abbrev pub taken_number : ℕ
+taken_number = 5
 
-abbrev pub alreadyNumber : ℕ
-alreadyNumber = 6
+abbrev pub already_number : ℕ
+already_number = 6
 
-abbrev pub verdictNumber : ℕ
-verdictNumber = 7
+abbrev pub verdict_number : ℕ
+verdict_number = 7
 
-abbrev pub waitNumber : ℕ
-waitNumber = 8
+abbrev pub wait_number : ℕ
+wait_number = 8
 
-abbrev pub refusalNumber : ℕ
-refusalNumber = 9
+abbrev pub refusal_number : ℕ
+refusal_number = 9
 
-abbrev pub gossipTakenNumber : ℕ
-gossipTakenNumber = 10
+abbrev pub gossip_taken_number : ℕ
+gossip_taken_number = 10
 
-abbrev pub openNumber : ℕ
-openNumber = 11
+abbrev pub open_number : ℕ
+open_number = 11
 
-abbrev pub sendNumber : ℕ
-sendNumber = 12
+abbrev pub send_number : ℕ
+send_number = 12

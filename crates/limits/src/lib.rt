@@ -1,7 +1,7 @@
 // One page of numbers, as the code has them: constants where the language asks for one, and small functions for all
 // else.
-ghost use mathlib.Core.Path.{_≡_};
-ghost use Rattle·limits·specs.specs.Limits.{most, logRoom, bookRoom};
+ghost use Rattle.std.specs.Prelude.{◌≡◌};
+ghost use Rattle.limits.specs.Limits.{most, log_room, book_room};
 
 // The fewest and the most screens of a house.
 pub const FEWEST: u64 = 2;
@@ -34,19 +34,19 @@ pub const ACCEPT: u64 = 1;
 pub const DECLINE: u64 = 2;
 
 pub fn most_screens() -> u64
-    ensures { λ r. ⌜ r ≡ most ⌝ }
+    ensures { result ≡ most }
 {
     MOST
 }
 
 pub fn log_room() -> u64
-    ensures { λ r. ⌜ r ≡ logRoom ⌝ }
+    ensures { result ≡ log_room }
 {
     LOG_ROOM
 }
 
 pub fn book_room() -> u64
-    ensures { λ r. ⌜ r ≡ bookRoom ⌝ }
+    ensures { result ≡ book_room }
 {
     BOOK_ROOM
 }

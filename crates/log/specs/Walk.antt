@@ -3,48 +3,44 @@
 --     records-next   the row at the place, and those past it
 --     records-none   past the last row there are none
 --     record-lent    the row at the place, as it is lent
-use Prim.Native.Nat.{ℕ, suc, _+_, _-_, _≤_, _<_}
-use native.Mathlib.Omega.{arith}
-use native.Mathlib.Nat.{sub-zero}
-use mathlib.Core.Path.{_≡_}
-use mathlib.Core.List.{List, [], _∷_}
-use lib.ListN.{take, drop}
-use lib.Seq.{drop-drop}
-use Rattle·lists.specs.Rows.{rows}
-use Rattle·ledger.specs.Record.{Record}
-use Rattle·log·specs.specs.Region.{rowLong, recordAt, recordsAt}
+use Rattle.std.specs.Prelude.{ℕ, suc, ◌+◌, ◌-◌, ◌≤◌, ◌<◌, ◌≡◌, List, [], ◌∷◌, take, drop}
+use Rattle.std.proofs.Common.{arith, drop-drop}
+use Rattle.std.proofs.Math.Nat.{sub-zero}
+use Rattle.lists.specs.Rows.{rows}
+use Rattle.ledger.specs.Record.{Record}
+use Rattle.log.specs.Region.{row_long, record_at, records_at}
 
 -- the records of the rows from the i-th of n on, which starts at a place
-unfoldable pub recordsFrom : ℕ → List ℕ → ℕ → ℕ → List Record
-recordsFrom n r i at = recordsAt (n - i) (drop at r)
+unfoldable pub records_from : ℕ → List ℕ → ℕ → ℕ → List Record
+records_from n r i at = records_at (n - i) (drop at r)
 
 -- the record of the row at a place
-unfoldable pub rowRecord : List ℕ → ℕ → Record
-rowRecord r at = recordAt (take rowLong (drop at r))
+unfoldable pub row_record : List ℕ → ℕ → Record
+row_record r at = record_at (take row_long (drop at r))
 
-pub records-all : (n : ℕ) (r : List ℕ) → recordsAt n r ≡ recordsFrom n r 0 0
-unfolding recordsFrom
+pub records-all : (n : ℕ) (r : List ℕ) → records_at n r ≡ records_from n r 0 0
+unfolding records_from
 records-all n r = rw sub-zero
 
 pub records-next : (n : ℕ) (r : List ℕ) (i at : ℕ) → i < n
-    → recordsFrom n r i at ≡ rowRecord r at ∷ recordsFrom n r (i + 1) (at + rowLong)
-unfolding recordsFrom rowRecord recordsAt rows
+    → records_from n r i at ≡ row_record r at ∷ records_from n r (i + 1) (at + row_long)
+unfolding records_from row_record records_at rows
 records-next n r i at h =
     let e : n - i ≡ suc (n - (i + 1)) = omega arith in
-    rw (e, drop-drop rowLong at r)
+    rw (e, drop-drop row_long at r)
 
-pub records-none : (n : ℕ) (r : List ℕ) (i at : ℕ) → n ≤ i → recordsFrom n r i at ≡ []
-unfolding recordsFrom recordsAt rows
+pub records-none : (n : ℕ) (r : List ℕ) (i at : ℕ) → n ≤ i → records_from n r i at ≡ []
+unfolding records_from records_at rows
 records-none n r i at h =
     let e : n - i ≡ 0 = omega arith in
     rw e
 
 -- the same row lent as a part
-abbrev pub lentAt : List ℕ → ℕ → Record
-lentAt r at = recordAt (take (at + rowLong - at) (drop at r))
+abbrev pub lent_at : List ℕ → ℕ → Record
+lent_at r at = record_at (take (at + row_long - at) (drop at r))
 
-pub record-lent : (r : List ℕ) (at : ℕ) → lentAt r at ≡ rowRecord r at
-unfolding rowRecord
+pub record-lent : (r : List ℕ) (at : ℕ) → lent_at r at ≡ row_record r at
+unfolding row_record
 record-lent r at =
-    let e : at + rowLong - at ≡ rowLong = omega arith in
+    let e : at + row_long - at ≡ row_long = omega arith in
     rw e

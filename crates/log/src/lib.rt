@@ -1,29 +1,22 @@
 // The log on a lent slice: rows of eleven words, by origin, then number. Knows nothing of what a body means.
+ghost use Rattle.std.specs.Prelude.{◌≡◌, true, ◌*◌, ◌≤◌, min, T, leb, length};
+ghost use Rattle.lists.specs.TestLaws.{bit};
+ghost use Rattle.lists.specs.Order.{key_before, rising};
+ghost use Rattle.lists.specs.Rows.{rows};
+ghost use Rattle.lists.specs.Tests.{all_below, every};
+ghost use Rattle.stamp.specs.Parts.{list_of};
+ghost use Rattle.stamp.specs.Stamp.{part};
+ghost use Rattle.ledger.specs.Log.{waiting_in};
+ghost use Rattle.ledger.specs.Record.{place, is_known, is_applied, is_waiting, record_fits};
+ghost use Rattle.log.specs.Region.{row_long, stamp_long, record_at, records_at};
+ghost use Rattle.log.specs.Lowest.{meet, lowest_from, goes_by};
+ghost use Rattle.log.specs.RowSound.{row_sound};
+ghost use Rattle.log.specs.Held.{raised, climbed, climb, holds_all};
+ghost use Rattle.log.specs.First.{first_with};
+
 use ledger::label_fits;
 use limits::PARTS;
-use stamp::Parts;
-use stamp::at_most;
-use stamp::list_of;
-use stamp::parts_at;
-use stamp::put_parts;
-ghost use mathlib.Core.Path.{_≡_};
-ghost use mathlib.Core.Bool.{true};
-ghost use Prim.Native.Nat.{_*_, _≤_, min};
-ghost use lib.Dec.{T, leb};
-ghost use lib.ListN.{length};
-ghost use Rattle·lists.specs.TestLaws.{bit};
-ghost use Rattle·lists.specs.Order.{keyBefore, rising};
-ghost use Rattle·lists.specs.Rows.{rows};
-ghost use Rattle·lists.specs.Tests.{allBelow, every};
-ghost use Rattle·stamp.specs.Parts.{listOf};
-ghost use Rattle·stamp.specs.Stamp.{part};
-ghost use Rattle·ledger.specs.Log.{waitingIn};
-ghost use Rattle·ledger.specs.Record.{place, isKnown, isApplied, isWaiting, recordFits};
-ghost use Rattle·log·specs.specs.Region.{rowLong, stampLong, recordAt, recordsAt};
-ghost use Rattle·log·specs.specs.Lowest.{meet, lowestFrom, goesBy};
-ghost use Rattle·log·specs.specs.RowSound.{rowSound};
-ghost use Rattle·log·specs.specs.Held.{raised, climbed, climb, holdsAll};
-ghost use Rattle·log·specs.specs.First.{firstWith};
+use stamp::{Parts, at_most, list_of, parts_at, put_parts};
 
 // Where the words of a row stand; the label is from LABEL to BODY.
 pub const ORIGIN: usize = 0;
@@ -39,8 +32,8 @@ pub const ROW: usize = BODY + 1;
 
 // Soundness asks this of each row up to five times, so the stamp's part is looked up here and not by a call.
 pub fn is_known(row: &[u64], s: &[u64]) -> bool
-    requires { ⌜ length (now row) ≡ rowLong ⌝ }
-    ensures { λ r. ⌜ r ≡ isKnown (now (s .entry)) (recordAt (now (row .entry))) ⌝ }
+    requires { length row.now ≡ row_long }
+    ensures { result ≡ is_known s.now (record_at row.now) }
 {
     let origin = row[ORIGIN] as usize;
     if s.len() <= origin {
@@ -50,9 +43,9 @@ pub fn is_known(row: &[u64], s: &[u64]) -> bool
 }
 
 pub fn is_applied(row: &[u64], s: &[u64]) -> bool
-    requires { ⌜ length (now row) ≡ rowLong ⌝ }
-    requires { ⌜ length (now s) ≡ stampLong ⌝ }
-    ensures { λ r. ⌜ r ≡ isApplied (now (s .entry)) (recordAt (now (row .entry))) ⌝ }
+    requires row_len { length row.now ≡ row_long }
+    requires s_len { length s.now ≡ stamp_long }
+    ensures { result ≡ is_applied s.now (record_at row.now) }
 {
     if !is_known(row, s) {
         return false;
@@ -62,9 +55,9 @@ pub fn is_applied(row: &[u64], s: &[u64]) -> bool
 
 // Known, and not applied under the ready stamp.
 fn is_waiting(row: &[u64], known: &[u64], ready: &[u64]) -> bool
-    requires { ⌜ length (now row) ≡ rowLong ⌝ }
-    requires { ⌜ length (now ready) ≡ stampLong ⌝ }
-    ensures { λ r. ⌜ r ≡ isWaiting (now (known .entry)) (now (ready .entry)) (recordAt (now (row .entry))) ⌝ }
+    requires row_len { length row.now ≡ row_long }
+    requires ready_len { length ready.now ≡ stamp_long }
+    ensures { result ≡ is_waiting known.now ready.now (record_at row.now) }
 {
     if !is_known(row, known) {
         return false;
@@ -74,9 +67,9 @@ fn is_waiting(row: &[u64], known: &[u64], ready: &[u64]) -> bool
 
 // Whether the record is applied under the ready stamp and known everywhere: `low` is the table's lowest stamp.
 pub fn goes(row: &[u64], ready: &[u64], low: &[u64]) -> bool
-    requires { ⌜ length (now row) ≡ rowLong ⌝ }
-    requires { ⌜ length (now ready) ≡ stampLong ⌝ }
-    ensures { λ r. ⌜ r ≡ goesBy (now (ready .entry)) (now (low .entry)) (recordAt (now (row .entry))) ⌝ }
+    requires row_len { length row.now ≡ row_long }
+    requires ready_len { length ready.now ≡ stamp_long }
+    ensures { result ≡ goes_by ready.now low.now (record_at row.now) }
 {
     if !is_applied(row, ready) {
         return false;
@@ -85,8 +78,8 @@ pub fn goes(row: &[u64], ready: &[u64], low: &[u64]) -> bool
 }
 
 fn row_fits(row: &[u64], n: usize) -> bool
-    requires { ⌜ length (now row) ≡ rowLong ⌝ }
-    ensures { λ r. ⌜ r ≡ recordFits (λ _. true) n (recordAt (now (row .entry))) ⌝ }
+    requires { length row.now ≡ row_long }
+    ensures { result ≡ record_fits (λ _. true) n (record_at row.now) }
 {
     label_fits(row[ORIGIN], row[NUMBER], &row[LABEL..BODY], n)
 }
@@ -101,10 +94,10 @@ fn row_sound(
     low: &[u64],
     value: &[u64],
 ) -> bool
-    requires { ⌜ length (now row) ≡ rowLong ⌝ }
-    requires { ⌜ (length (now ready) ≡ stampLong) × (length (now value) ≡ stampLong) ⌝ }
-    ensures { λ r. ⌜ r ≡ rowSound n (now (known .entry)) (now (ready .entry)) (now (low .entry)) (now (value .entry))
-        (recordAt (now (row .entry))) ⌝ }
+    requires row_len { length row.now ≡ row_long }
+    requires ready_len { (length ready.now ≡ stamp_long) × (length value.now ≡ stamp_long) }
+    ensures { result ≡ row_sound n known.now ready.now low.now value.now
+        (record_at row.now) }
 {
     if !is_known(row, known) {
         return false;
@@ -122,16 +115,16 @@ fn row_sound(
 }
 
 fn smaller(x: u64, y: u64) -> u64
-    ensures { λ r. ⌜ r ≡ min x y ⌝ }
+    ensures { result ≡ min x y }
 {
     if x < y { x } else { y }
 }
 
 // The smaller in each part, written over a.
 fn meet_into(a: &mut [u64], b: &[u64])
-    requires { ⌜ length (now a) ≡ length (now b) ⌝ }
-    ensures { λ _. ⌜ (now (a .exit) ≡ meet (now (a .entry)) (now (b .entry)))
-        × (length (now (a .exit)) ≡ length (now (a .entry))) ⌝ }
+    requires { length a.old ≡ length b.now }
+    ensures { (a.new ≡ meet a.old b.now)
+        × (length a.new ≡ length a.old) }
 {
     let mut i = 0;
     while i < a.len() {
@@ -142,10 +135,10 @@ fn meet_into(a: &mut [u64], b: &[u64])
 
 // A stamp met with each of the table's n rows, written over it.
 pub fn lowest(table: &[u64], n: usize, low: &mut [u64])
-    requires { ⌜ n * stampLong ≤ length (now table) ⌝ }
-    requires { ⌜ length (now low) ≡ stampLong ⌝ }
-    ensures { λ _. ⌜ (now (low .exit) ≡ lowestFrom (now (low .entry)) (rows stampLong n (now (table .entry))))
-        × (length (now (low .exit)) ≡ stampLong) ⌝ }
+    requires stamp_long_in_bounds { n * stamp_long ≤ length table.now }
+    requires low_len { length low.old ≡ stamp_long }
+    ensures { (low.new ≡ lowest_from low.old (rows stamp_long n table.now))
+        × (length low.new ≡ stamp_long) }
 {
     let mut i = 0;
     let mut at = 0;
@@ -167,11 +160,11 @@ pub fn rows_sound(
     low: &[u64],
     value: &[u64],
 ) -> bool
-    requires { ⌜ count * rowLong ≤ length (now r) ⌝ }
-    requires { ⌜ (length (now ready) ≡ stampLong) × (length (now value) ≡ stampLong) ⌝ }
-    ensures { λ b. ⌜ b
-        ≡ every (rowSound n (now (known .entry)) (now (ready .entry)) (now (low .entry)) (now (value .entry)))
-        (recordsAt count (now (r .entry))) ⌝ }
+    requires row_long_in_bounds { count * row_long ≤ length r.now }
+    requires ready_len { (length ready.now ≡ stamp_long) × (length value.now ≡ stamp_long) }
+    ensures { result
+        ≡ every (row_sound n known.now ready.now low.now value.now)
+        (records_at count r.now) }
 {
     let mut i = 0;
     let mut at = 0;
@@ -188,8 +181,8 @@ pub fn rows_sound(
 
 // Whether row a stands before row b: by origin, then number.
 pub fn stands_before(a: &[u64], b: &[u64]) -> bool
-    requires { ⌜ (length (now a) ≡ rowLong) × (length (now b) ≡ rowLong) ⌝ }
-    ensures { λ r. ⌜ r ≡ keyBefore (place (recordAt (now (a .entry)))) (place (recordAt (now (b .entry)))) ⌝ }
+    requires { (length a.now ≡ row_long) × (length b.now ≡ row_long) }
+    ensures { result ≡ key_before (place (record_at a.now)) (place (record_at b.now)) }
 {
     if a[ORIGIN] < b[ORIGIN] {
         return true;
@@ -202,8 +195,8 @@ pub fn stands_before(a: &[u64], b: &[u64]) -> bool
 
 // Whether the rows rise strictly: neighbours suffice.
 pub fn rising_rows(r: &[u64], count: usize) -> bool
-    requires { ⌜ count * rowLong ≤ length (now r) ⌝ }
-    ensures { λ b. ⌜ b ≡ rising place (recordsAt count (now (r .entry))) ⌝ }
+    requires { count * row_long ≤ length r.now }
+    ensures { result ≡ rising place (records_at count r.now) }
 {
     let mut i = 0;
     let mut at = 0;
@@ -221,7 +214,7 @@ pub fn rising_rows(r: &[u64], count: usize) -> bool
 
 // q if it is the next number, else what was reached.
 fn raise(reached: u64, q: u64) -> u64
-    ensures { λ r. ⌜ r ≡ raised reached q ⌝ }
+    ensures { result ≡ raised reached q }
 {
     if q <= reached {
         return reached;
@@ -234,9 +227,9 @@ fn raise(reached: u64, q: u64) -> u64
 
 // An origin past the stamp's parts raises none.
 pub fn climb_row(row: &[u64], reached: &mut [u64])
-    requires { ⌜ length (now row) ≡ rowLong ⌝ }
-    ensures { λ _. ⌜ (now (reached .exit) ≡ climbed (now (reached .entry)) (recordAt (now (row .entry))))
-        × (length (now (reached .exit)) ≡ length (now (reached .entry))) ⌝ }
+    requires { length row.now ≡ row_long }
+    ensures { (reached.new ≡ climbed reached.old (record_at row.now))
+        × (length reached.new ≡ length reached.old) }
 {
     let k = row[ORIGIN] as usize;
     if reached.len() <= k {
@@ -247,9 +240,9 @@ pub fn climb_row(row: &[u64], reached: &mut [u64])
 
 // How far the numbers of each origin go without a gap from those reached, written over them.
 fn climb_rows(r: &[u64], count: usize, reached: &mut [u64])
-    requires { ⌜ count * rowLong ≤ length (now r) ⌝ }
-    ensures { λ _. ⌜ (now (reached .exit) ≡ climb (now (reached .entry)) (recordsAt count (now (r .entry))))
-        × (length (now (reached .exit)) ≡ length (now (reached .entry))) ⌝ }
+    requires { count * row_long ≤ length r.now }
+    ensures { (reached.new ≡ climb reached.old (records_at count r.now))
+        × (length reached.new ≡ length reached.old) }
 {
     let mut i = 0;
     let mut at = 0;
@@ -263,8 +256,8 @@ fn climb_rows(r: &[u64], count: usize, reached: &mut [u64])
 
 // Whether the first n parts of a are at most those of b.
 pub fn first_at_most(a: &[u64], b: &[u64], n: usize) -> bool
-    requires { ⌜ (n ≤ length (now a)) × (n ≤ length (now b)) ⌝ }
-    ensures { λ r. ⌜ r ≡ allBelow n (λ k. leb (part (now (a .entry)) k) (part (now (b .entry)) k)) ⌝ }
+    requires { (n ≤ length a.now) × (n ≤ length b.now) }
+    ensures { result ≡ all_below n (λ k. leb (part a.now k) (part b.now k)) }
 {
     let mut k = n;
     while 0 < k {
@@ -278,10 +271,10 @@ pub fn first_at_most(a: &[u64], b: &[u64], n: usize) -> bool
 
 // Whether each number up to the known part is in the log or at most the lowest part, for the first n origins.
 pub fn all_held(r: &[u64], count: usize, n: usize, known: &[u64], low: &[u64]) -> bool
-    requires { ⌜ count * rowLong ≤ length (now r) ⌝ }
-    requires { ⌜ T (rising place (recordsAt count (now r))) ⌝ }
-    requires { ⌜ (length (now known) ≡ stampLong) × (length (now low) ≡ stampLong) × (n ≤ stampLong) ⌝ }
-    ensures { λ b. ⌜ b ≡ holdsAll n (now (low .entry)) (now (known .entry)) (recordsAt count (now (r .entry))) ⌝ }
+    requires row_long_in_bounds { count * row_long ≤ length r.now }
+    requires t { T (rising place (records_at count r.now)) }
+    requires known_len { (length known.now ≡ stamp_long) × (length low.now ≡ stamp_long) × (n ≤ stamp_long) }
+    ensures { result ≡ holds_all n low.now known.now (records_at count r.now) }
 {
     let p = parts_at(low, 0);
     let mut reached = list_of(p);
@@ -290,18 +283,18 @@ pub fn all_held(r: &[u64], count: usize, n: usize, known: &[u64], low: &[u64]) -
 }
 
 fn one_if(b: bool) -> usize
-    ensures { λ r. ⌜ (r ≡ bit b) × (r ≤ 1) ⌝ }
+    ensures { (result ≡ bit b) × (result ≤ 1) }
 {
     if b { 1 } else { 0 }
 }
 
 // How many records wait.
 pub fn count_waiting(r: &[u64], count: usize, known: &[u64], ready: &[u64]) -> usize
-    requires { ⌜ count * rowLong ≤ length (now r) ⌝ }
-    requires { ⌜ length (now ready) ≡ stampLong ⌝ }
-    ensures { λ n. ⌜ (n
-        ≡ length (waitingIn (now (known .entry)) (now (ready .entry)) (recordsAt count (now (r .entry)))))
-        × (n ≤ count) ⌝ }
+    requires row_long_in_bounds { count * row_long ≤ length r.now }
+    requires ready_len { length ready.now ≡ stamp_long }
+    ensures { (result
+        ≡ length (waiting_in known.now ready.now (records_at count r.now)))
+        × (result ≤ count) }
 {
     let mut n = 0;
     let mut i = 0;
@@ -317,8 +310,8 @@ pub fn count_waiting(r: &[u64], count: usize, known: &[u64], ready: &[u64]) -> u
 
 // The row of a record.
 pub fn make_row(origin: u64, number: u64, label: Parts, body: u64) -> [u64; ROW]
-    ensures { λ r. ⌜ (recordAt r ≡ record { origin = origin; number = number; label = listOf label; body = body })
-        × (length r ≡ rowLong) ⌝ }
+    ensures { (record_at result ≡ record { origin = origin; number = number; label = list_of label; body = body })
+        × (length result ≡ row_long) }
 {
     let mut row = [0u64; ROW];
     row[ORIGIN] = origin;
@@ -329,16 +322,16 @@ pub fn make_row(origin: u64, number: u64, label: Parts, body: u64) -> [u64; ROW]
 }
 
 fn body_of(row: &[u64]) -> u64
-    requires { ⌜ length (now row) ≡ rowLong ⌝ }
-    ensures { λ w. ⌜ w ≡ recordAt (now (row .entry)) .body ⌝ }
+    requires { length row.now ≡ row_long }
+    ensures { result ≡ (record_at row.now).body }
 {
     row[BODY]
 }
 
 // The first row whose body is w, or count.
 pub fn find_body(r: &[u64], count: usize, w: u64) -> usize
-    requires { ⌜ count * rowLong ≤ length (now r) ⌝ }
-    ensures { λ i. ⌜ (i ≡ firstWith w (recordsAt count (now (r .entry)))) × (i ≤ count) ⌝ }
+    requires { count * row_long ≤ length r.now }
+    ensures { (result ≡ first_with w (records_at count r.now)) × (result ≤ count) }
 {
     let mut i = 0;
     let mut at = 0;

@@ -1,80 +1,77 @@
 -- Laws: the first rows of a region as records. Assumes nothing.
---     records-add    some rows, and those behind them
+--     records_add    some rows, and those behind them
 --     records-split  of the first i rows the first n, and those from the n-th on
---     records-snoc   one row more
+--     records_snoc   one row more
 --     records-same   two regions with the same first words hold the same first records
 --     flat-records   the records laid out again are the region's first words
 --     words-after    the words of the rows from the n-th up to the i-th
 --     take-before    the words before a part that is put
-use Prim.Native.Nat.{ℕ, zero, suc, _+_, _-_, _*_, _≤_}
-use native.Mathlib.Omega.{arith}
-use mathlib.Core.Path.{_≡_, refl, sym, ap, ap₂, _∙_}
-use mathlib.Core.List.{List, [], _∷_, _++_, map}
-use lib.ListN.{length, take, drop, length-drop, take-append-drop}
-use lib.Seq.{length-take-le, take-append-le, drop-append-le, drop-drop, take-add}
-use Rattle·lists.specs.Part.{mid, patch, mid-patch-before}
-use Rattle·lists.specs.Rows.{rows, flat}
-use Rattle·ledger.specs.Record.{Record}
-use Rattle·log.specs.Region.{rowLong, recordAt, rowOf, recordsAt}
-use Rattle·log.specs.RegionLaws.{row-record}
-use Rattle·log.specs.Walk.{recordsFrom, rowRecord}
+use Rattle.std.specs.Prelude.{ℕ, zero, suc, ◌+◌, ◌-◌, ◌*◌, ◌≤◌, ◌≡◌, refl, List, [], ◌∷◌, ◌++◌, map, length, take, drop}
+use Rattle.std.proofs.Common.{arith, sym, ap, ap₂, ◌∙◌, length-drop, take-append-drop, length-take-le, drop-drop, take-add}
+use Rattle.std.proofs.lemmas.List.{take-append-le, drop-append-le}
+use Rattle.lists.specs.Part.{mid, patch, mid-patch-before}
+use Rattle.lists.specs.Rows.{rows, flat}
+use Rattle.ledger.specs.Record.{Record}
+use Rattle.log.specs.Region.{row_long, record_at, row_of, records_at}
+use Rattle.log.specs.RegionLaws.{row_record_lem}
+use Rattle.log.specs.Walk.{records_from, row_record}
 
-pub records-add : (n m : ℕ) (l : List ℕ) → recordsAt (n + m) l ≡ recordsAt n l ++ recordsAt m (drop (n * rowLong) l)
-unfolding recordsAt rows
-records-add zero m l =
+pub records_add : (n m : ℕ) (l : List ℕ) → records_at (n + m) l ≡ records_at n l ++ records_at m (drop (n * row_long) l)
+unfolding records_at rows
+records_add zero m l =
     let e : 0 + m ≡ m = omega arith in
     rw e
-records-add (suc n) m l =
+records_add (suc n) m l =
     let e : suc n + m ≡ suc (n + m) = omega arith in
-    let f : suc n * rowLong ≡ rowLong + n * rowLong = omega arith in
-    rw (e, f, ← drop-drop (n * rowLong) rowLong l)
-    (ap (λ (rs : List Record). recordAt (take rowLong l) ∷ rs) (records-add n m (drop rowLong l)))
+    let f : suc n * row_long ≡ row_long + n * row_long = omega arith in
+    rw (e, f, ← drop-drop (n * row_long) row_long l)
+    (ap (λ (rs : List Record). record_at (take row_long l) ∷ rs) (records_add n m (drop row_long l)))
 
-pub records-split : (i n : ℕ) (l : List ℕ) → n ≤ i → recordsAt i l ≡ recordsAt n l ++ recordsFrom i l n (n * rowLong)
-unfolding recordsFrom
+pub records-split : (i n : ℕ) (l : List ℕ) → n ≤ i → records_at i l ≡ records_at n l ++ records_from i l n (n * row_long)
+unfolding records_from
 records-split i n l h =
     let e : i ≡ n + (i - n) = omega arith in
-    ap (λ (k : ℕ). recordsAt k l) e ∙ records-add n (i - n) l
+    ap (λ (k : ℕ). records_at k l) e ∙ records_add n (i - n) l
 
-pub records-snoc : (n : ℕ) (l : List ℕ) → recordsAt (n + 1) l ≡ recordsAt n l ++ (rowRecord l (n * rowLong) ∷ [])
-unfolding recordsAt rows rowRecord
-records-snoc n l = records-add n 1 l
+pub records_snoc : (n : ℕ) (l : List ℕ) → records_at (n + 1) l ≡ records_at n l ++ (row_record l (n * row_long) ∷ [])
+unfolding records_at rows row_record
+records_snoc n l = records_add n 1 l
 
-records-front : (n : ℕ) (p q : List ℕ) → n * rowLong ≤ length p → recordsAt n (p ++ q) ≡ recordsAt n p
-unfolding recordsAt rows
+records-front : (n : ℕ) (p q : List ℕ) → n * row_long ≤ length p → records_at n (p ++ q) ≡ records_at n p
+unfolding records_at rows
 records-front zero p q h = refl
 records-front (suc n) p q h =
-    let e : rowLong ≤ length p = omega arith in
-    rw (take-append-le rowLong p q e, drop-append-le rowLong p q e)
-    (ap (λ (rs : List Record). recordAt (take rowLong p) ∷ rs)
-    (records-front n (drop rowLong p) q (simp length-drop (omega arith))))
+    let e : row_long ≤ length p = omega arith in
+    rw (take-append-le row_long p q e, drop-append-le row_long p q e)
+    (ap (λ (rs : List Record). record_at (take row_long p) ∷ rs)
+    (records-front n (drop row_long p) q (simp length-drop (omega arith))))
 
-pub records-same : (n : ℕ) (l m : List ℕ) → n * rowLong ≤ length l → n * rowLong ≤ length m
-    → take (n * rowLong) l ≡ take (n * rowLong) m → recordsAt n l ≡ recordsAt n m
-records-same n l m h k e = sym (front l h) ∙ ap (recordsAt n) e ∙ front m k
+pub records-same : (n : ℕ) (l m : List ℕ) → n * row_long ≤ length l → n * row_long ≤ length m
+    → take (n * row_long) l ≡ take (n * row_long) m → records_at n l ≡ records_at n m
+records-same n l m h k e = sym (front l h) ∙ ap (records_at n) e ∙ front m k
   where
-    front : (r : List ℕ) → n * rowLong ≤ length r → recordsAt n (take (n * rowLong) r) ≡ recordsAt n r
+    front : (r : List ℕ) → n * row_long ≤ length r → records_at n (take (n * row_long) r) ≡ records_at n r
     front r j =
-        let f : n * rowLong ≤ length (take (n * rowLong) r) = rw (length-take-le (n * rowLong) r j) (omega arith) in
-        sym (records-front n (take (n * rowLong) r) (drop (n * rowLong) r) f)
-        ∙ ap (recordsAt n) (take-append-drop (n * rowLong) r)
+        let f : n * row_long ≤ length (take (n * row_long) r) = rw (length-take-le (n * row_long) r j) (omega arith) in
+        sym (records-front n (take (n * row_long) r) (drop (n * row_long) r) f)
+        ∙ ap (records_at n) (take-append-drop (n * row_long) r)
 
-pub flat-records : (n : ℕ) (l : List ℕ) → n * rowLong ≤ length l
-    → flat (map rowOf (recordsAt n l)) ≡ take (n * rowLong) l
-unfolding recordsAt rows flat
+pub flat-records : (n : ℕ) (l : List ℕ) → n * row_long ≤ length l
+    → flat (map row_of (records_at n l)) ≡ take (n * row_long) l
+unfolding records_at rows flat
 flat-records zero l h = refl
 flat-records (suc n) l h =
-    let e : suc n * rowLong ≡ rowLong + n * rowLong = omega arith in
-    rw (e, take-add rowLong (n * rowLong) l)
-    (ap₂ _++_ (row-record (take rowLong l) (length-take-le rowLong l (omega arith)))
-    (flat-records n (drop rowLong l) (simp length-drop (omega arith))))
+    let e : suc n * row_long ≡ row_long + n * row_long = omega arith in
+    rw (e, take-add row_long (n * row_long) l)
+    (ap₂ ◌++◌ (row_record_lem (take row_long l) (length-take-le row_long l (omega arith)))
+    (flat-records n (drop row_long l) (simp length-drop (omega arith))))
 
-pub words-after : (i n : ℕ) (l : List ℕ) → n ≤ i → i * rowLong ≤ length l
-    → flat (map rowOf (recordsFrom i l n (n * rowLong))) ≡ mid (n * rowLong) (i * rowLong - n * rowLong) l
-unfolding recordsFrom mid
+pub words-after : (i n : ℕ) (l : List ℕ) → n ≤ i → i * row_long ≤ length l
+    → flat (map row_of (records_from i l n (n * row_long))) ≡ mid (n * row_long) (i * row_long - n * row_long) l
+unfolding records_from mid
 words-after i n l h k =
-    let e : i * rowLong - n * rowLong ≡ (i - n) * rowLong = omega arith in
-    flat-records (i - n) (drop (n * rowLong) l) (simp length-drop (omega arith)) ∙ rw e
+    let e : i * row_long - n * row_long ≡ (i - n) * row_long = omega arith in
+    flat-records (i - n) (drop (n * row_long) l) (simp length-drop (omega arith)) ∙ rw e
 
 -- the words before a part that is put
 pub take-before : (a k : ℕ) (r ys : List ℕ) (b : ℕ) → a + k ≤ length r → length ys ≡ k → b ≤ a

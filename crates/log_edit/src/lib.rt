@@ -1,26 +1,21 @@
 // Rows of the log moved in place: new records merged in from the back, records that may go dropped from the front.
-use log::ROW;
-use log::goes;
-use log::stands_before;
+ghost use Rattle.std.specs.Prelude.{◌≡◌, [], ◌∷◌, ◌++◌, ◌+◌, ◌-◌, ◌*◌, ◌≤◌, T, length, take, drop, replicate};
+ghost use Rattle.lists.specs.Order.{key_before, rising};
+ghost use Rattle.lists.specs.Part.{mid, patch};
+ghost use Rattle.ledger.specs.Record.{place};
+ghost use Rattle.log.specs.Region.{row_long, stamp_long, record_at, records_at};
+ghost use Rattle.log.specs.Lowest.{goes_by};
+ghost use Rattle.log.specs.Walk.{row_record};
+ghost use Rattle.log_edit.specs.Merge.{Fresh, Parted, Shifted, Slid, merged, Closed};
+
+use log::{ROW, goes, stands_before};
 use stamp::copy;
-ghost use mathlib.Core.Path.{_≡_};
-ghost use mathlib.Core.List.{[], _∷_, _++_};
-ghost use Prim.Native.Nat.{_+_, _-_, _*_, _≤_};
-ghost use lib.Dec.{T};
-ghost use lib.ListN.{length, take, drop, replicate};
-ghost use Rattle·lists.specs.Order.{keyBefore, rising};
-ghost use Rattle·lists.specs.Part.{mid, patch};
-ghost use Rattle·ledger.specs.Record.{place};
-ghost use Rattle·log.specs.Region.{rowLong, stampLong, recordAt, recordsAt};
-ghost use Rattle·log.specs.Lowest.{goesBy};
-ghost use Rattle·log.specs.Walk.{rowRecord};
-ghost use Rattle·log_edit·specs.specs.Merge.{Fresh, Parted, Shifted, Slid, merged, Closed};
 
 // Whether the i-th row of r stands after a row.
 fn after_at(r: &[u64], i: usize, row: &[u64]) -> bool
-    requires { ⌜ (i * rowLong + rowLong ≤ length (now r)) × (length (now row) ≡ rowLong) ⌝ }
-    ensures { λ b. ⌜ b ≡ keyBefore (place (recordAt (now (row .entry))))
-        (place (rowRecord (now (r .entry)) (i * rowLong))) ⌝ }
+    requires { (i * row_long + row_long ≤ length r.now) × (length row.now ≡ row_long) }
+    ensures { result ≡ key_before (place (record_at row.now))
+        (place (row_record r.now (i * row_long))) }
 {
     let at = i * ROW;
     let e = at + ROW;
@@ -29,9 +24,9 @@ fn after_at(r: &[u64], i: usize, row: &[u64]) -> bool
 
 // How many of the first i rows do not stand after a row. The rows rise, so the others are the last of them.
 fn staying(r: &[u64], i: usize, row: &[u64]) -> usize
-    requires { ⌜ (i * rowLong ≤ length (now r)) × (length (now row) ≡ rowLong) ⌝ }
-    requires { ⌜ T (rising place (recordsAt i (now r))) ⌝ }
-    ensures { λ n. ⌜ Parted i (now (row .entry)) (now (r .entry)) n ⌝ }
+    requires row_long_in_bounds { (i * row_long ≤ length r.now) × (length row.now ≡ row_long) }
+    requires t { T (rising place (records_at i r.now)) }
+    ensures { Parted i row.now r.now result }
 {
     let mut n = i;
     while 0 < n {
@@ -45,8 +40,8 @@ fn staying(r: &[u64], i: usize, row: &[u64]) -> usize
 
 // The words from a place up to another moved up, the last first, so that none is written over before it is moved.
 fn shift_up(r: &mut [u64], from: usize, to: usize, by: usize)
-    requires { ⌜ (from ≤ to) × (to + by ≤ length (now r)) ⌝ }
-    ensures { λ _. ⌜ Shifted from to by (now (r .entry)) (now (r .exit)) ⌝ }
+    requires { (from ≤ to) × (to + by ≤ length r.old) }
+    ensures { Shifted from to by r.old r.new }
 {
     let mut j = to;
     while from < j {
@@ -57,8 +52,8 @@ fn shift_up(r: &mut [u64], from: usize, to: usize, by: usize)
 
 // A row put over the i-th.
 fn put_row(r: &mut [u64], i: usize, row: &[u64])
-    requires { ⌜ (i * rowLong + rowLong ≤ length (now r)) × (length (now row) ≡ rowLong) ⌝ }
-    ensures { λ _. ⌜ now (r .exit) ≡ patch (i * rowLong) rowLong (now (r .entry)) (now (row .entry)) ⌝ }
+    requires { (i * row_long + row_long ≤ length r.old) × (length row.now ≡ row_long) }
+    ensures { r.new ≡ patch (i * row_long) row_long r.old row.now }
 {
     let at = i * ROW;
     let e = at + ROW;
@@ -69,9 +64,9 @@ fn put_row(r: &mut [u64], i: usize, row: &[u64])
 // them.
 // Gives how many rows stay where they are; the gap is one row shorter.
 pub fn slide_in(r: &mut [u64], i: usize, gap: usize, row: &[u64]) -> usize
-    requires { ⌜ (1 ≤ gap) × ((i + gap) * rowLong ≤ length (now r)) × (length (now row) ≡ rowLong) ⌝ }
-    requires { ⌜ T (rising place (recordsAt i (now r))) ⌝ }
-    ensures { λ n. ⌜ Slid i gap (now (row .entry)) (now (r .entry)) (now (r .exit)) n ⌝ }
+    requires le_gap { (1 ≤ gap) × ((i + gap) * row_long ≤ length r.old) × (length row.now ≡ row_long) }
+    requires t { T (rising place (records_at i r.old)) }
+    ensures { Slid i gap row.now r.old r.new result }
 {
     let n = staying(r, i, row);
     shift_up(r, n * ROW, i * ROW, gap * ROW);
@@ -81,17 +76,17 @@ pub fn slide_in(r: &mut [u64], i: usize, gap: usize, row: &[u64]) -> usize
 
 // One new record put among the first rows, where one row behind them is free.
 pub fn put_one(r: &mut [u64], count: usize, row: &[u64])
-    requires { ⌜ ((count + 1) * rowLong ≤ length (now r)) × (length (now row) ≡ rowLong) ⌝ }
-    requires { ⌜ Fresh (recordAt (now row) ∷ []) (recordsAt count (now r)) ⌝ }
-    ensures { λ _. ⌜ now (r .exit) ≡ merged (recordAt (now (row .entry)) ∷ []) count 1 (now (r .entry)) ⌝ }
+    requires row_long_in_bounds { ((count + 1) * row_long ≤ length r.old) × (length row.now ≡ row_long) }
+    requires fresh { Fresh (record_at row.now ∷ []) (records_at count r.old) }
+    ensures { r.new ≡ merged (record_at row.now ∷ []) count 1 r.old }
 {
     slide_in(r, count, 1, row);
 }
 
 // Whether the i-th row may go.
 fn goes_at(r: &[u64], i: usize, ready: &[u64], low: &[u64]) -> bool
-    requires { ⌜ (i * rowLong + rowLong ≤ length (now r)) × (length (now ready) ≡ stampLong) ⌝ }
-    ensures { λ b. ⌜ b ≡ goesBy (now (ready .entry)) (now (low .entry)) (rowRecord (now (r .entry)) (i * rowLong)) ⌝ }
+    requires { (i * row_long + row_long ≤ length r.now) × (length ready.now ≡ stamp_long) }
+    ensures { result ≡ goes_by ready.now low.now (row_record r.now (i * row_long)) }
 {
     let at = i * ROW;
     let e = at + ROW;
@@ -100,9 +95,9 @@ fn goes_at(r: &[u64], i: usize, ready: &[u64], low: &[u64]) -> bool
 
 // A row copied over one before it, by way of an array of its own; a row over itself is not touched.
 fn move_row(r: &mut [u64], from: usize, to: usize)
-    requires { ⌜ (from * rowLong + rowLong ≤ length (now r)) × (to ≤ from) ⌝ }
-    ensures { λ _. ⌜ now (r .exit)
-        ≡ patch (to * rowLong) rowLong (now (r .entry)) (mid (from * rowLong) rowLong (now (r .entry))) ⌝ }
+    requires { (from * row_long + row_long ≤ length r.old) × (to ≤ from) }
+    ensures { r.new
+        ≡ patch (to * row_long) row_long r.old (mid (from * row_long) row_long r.old) }
 {
     if to == from {
         return;
@@ -116,9 +111,9 @@ fn move_row(r: &mut [u64], from: usize, to: usize)
 
 // Zeros from a place up to another.
 fn clear(r: &mut [u64], from: usize, to: usize)
-    requires { ⌜ (from ≤ to) × (to ≤ length (now r)) ⌝ }
-    ensures { λ _. ⌜ now (r .exit)
-        ≡ take from (now (r .entry)) ++ (replicate (to - from) 0 ++ drop to (now (r .entry))) ⌝ }
+    requires { (from ≤ to) × (to ≤ length r.old) }
+    ensures { r.new
+        ≡ take from r.old ++ (replicate (to - from) 0 ++ drop to r.old) }
 {
     let mut j = from;
     while j < to {
@@ -130,8 +125,8 @@ fn clear(r: &mut [u64], from: usize, to: usize)
 // Of the first rows those that may go dropped, the others closed up in their order, and zeros behind them. Gives how
 // many stay.
 pub fn drop_rows(r: &mut [u64], count: usize, ready: &[u64], low: &[u64]) -> usize
-    requires { ⌜ (count * rowLong ≤ length (now r)) × (length (now ready) ≡ stampLong) ⌝ }
-    ensures { λ n. ⌜ Closed (now (ready .entry)) (now (low .entry)) count (now (r .entry)) (now (r .exit)) n ⌝ }
+    requires { (count * row_long ≤ length r.old) × (length ready.now ≡ stamp_long) }
+    ensures { Closed ready.now low.now count r.old r.new result }
 {
     let mut kept = 0;
     let mut i = 0;

@@ -1,186 +1,180 @@
 -- Laws: when a question is answered, what Permission's yes means, and that a reply is settled by its number and values.
 -- Assumes nothing.
-use Prim.Native.Nat.{ℕ, _<_}
-use native.Mathlib.Omega.{arith}
-use mathlib.Core.Path.{_≡_, refl, subst, sym, ap, _∙_}
-use mathlib.Core.Logic.{_⊎_, inl, inr}
-use mathlib.Core.Bool.{not, _&&_, true, cond}
-use mathlib.Core.List.{_∷_, [], List}
-use mathlib.Core.Option.{Option, none, some}
-use lib.Dec.{T, ltb, ltb→lt, lt→ltb, eqb, eqb→eq}
-use lib.ListN.{getD, drop}
-use Rattle·lists.specs.TestLaws.{not-not, and-l, and-r, passed, firstOf-none, all-from, not-intro, _also_, both}
-use Rattle·lists.specs.TestLaws.{not-from}
-use Rattle·lists.specs.TestLaws.{done, either, tell, is-true, is-false, clash, same-test}
-use Rattle·lists.specs.ElementLaws.{first-passes, none-first, eq→eqb}
-use Rattle·lists.specs.Tests.{firstOf, every}
-use Rattle·limits.specs.Limits.{promptCount}
-use Rattle·stamp.specs.Laws.{Covers, atMost-parts, parts-atMost}
-use Rattle·stamp.specs.Stamp.{Stamp, stampFits, atMost, part}
-use Rattle·tally.specs.Standing.{verdictOf, accepted}
-use Rattle·tally.specs.declared.Standing.{Standing}
-use Rattle·meaning·specs.specs.Book.{Book, standingAt, sound, known}
-use Rattle·meaning·specs.specs.Reply.{Reply, isAnswered, permits, refusal, verdict, showingOf, taken, already, wait}
-use Rattle·meaning·specs.specs.Reply.{gossiped, figures}
-use Rattle·meaning·specs.specs.BookLaws.{Sound, sound-at, at-sound}
-use Rattle·meaning·specs.specs.Step.{ask, askStops, stopOr, answerOf, Outcome, unknownLabel}
+use Rattle.std.specs.Prelude.{ℕ, ◌<◌, ◌≡◌, refl, ◌⊎◌, not, ◌&&◌, true, cond, ◌∷◌, [], List, T, ltb, eqb, get_or, drop}
+use Rattle.std.proofs.Common.{arith, subst, sym, ap, ◌∙◌, inl, inr, ltb→lt, lt→ltb, eqb→eq}
+use Rattle.std.proofs.Math.Option.{Option, none, some}
+use Rattle.lists.specs.TestLaws.{not-not, and_l, and_r, passed, first_of-none, all_from, not_intro, ◌also◌, both}
+use Rattle.lists.specs.TestLaws.{not-from}
+use Rattle.lists.specs.TestLaws.{done, either, tell, is_true, is_false, clash, same_test}
+use Rattle.lists.specs.ElementLaws.{first_passes, none_first, eq→eqb}
+use Rattle.lists.specs.Tests.{first_of, every}
+use Rattle.limits.specs.Limits.{prompt_count}
+use Rattle.stamp.specs.Laws.{Covers, at_most-parts, parts-at_most}
+use Rattle.stamp.specs.Stamp.{Stamp, stamp_fits, at_most, part}
+use Rattle.tally.specs.Standing.{verdict_of, accepted}
+use Rattle.tally.specs.declared.Standing.{Standing}
+use Rattle.meaning.specs.Book.{Book, standing_at, sound, known}
+use Rattle.meaning.specs.Reply.{Reply, is_answered, permits, refusal, verdict, showing_of, taken, already, wait}
+use Rattle.meaning.specs.Reply.{gossiped, figures}
+use Rattle.meaning.specs.BookLaws.{Sound, sound-at, at-sound}
+use Rattle.meaning.specs.Step.{ask, ask_stops, stop_or, answer_of, Outcome, unknown_label}
 
 -- a question changes no book
-pub ask-keeps : (b : Book) (p : ℕ) (l : Stamp) → (ask b p l) .book ≡ b
+pub ask-keeps : (b : Book) (p : ℕ) (l : Stamp) → (ask b p l).book ≡ b
 unfolding ask
-ask-keeps b p l = go (firstOf (askStops b p l))
+ask-keeps b p l = go (first_of (ask_stops b p l))
   where
-    go : (o : Option Reply) → (stopOr b (record { reply = answerOf (standingAt b p) (b .value); book = b }) o) .book ≡ b
+    go : (o : Option Reply) → (stop_or b (record { reply = answer_of (standing_at b p) b.value; book = b }) o).book ≡ b
     go none = refl
     go (some r) = refl
 
 -- Question: what is seen to when nothing stops it
 pub record AskDone (b : Book) (p : ℕ) (l : Stamp) : Type 0 where
   pub sound-before : Sound b
-  pub prompt-in : p < promptCount
-  pub label-fits : T (stampFits (b .screens) l)
-  pub covered : Covers (b .value) l
+  pub prompt_in_lem : p < prompt_count
+  pub label-fits : T (stamp_fits b.screens l)
+  pub covered : Covers b.value l
 
-ask-passed : (b : Book) (p : ℕ) (l : Stamp) → T (every (λ c. not (c .0)) (askStops b p l)) → AskDone b p l
-unfolding askStops
+ask-passed : (b : Book) (p : ℕ) (l : Stamp) → T (every (λ c. not c.0) (ask_stops b p l)) → AskDone b p l
+unfolding ask_stops
 ask-passed b p l t =
-    passed (askStops b p l) t
+    passed (ask_stops b p l) t
     (λ sound-before fits own covered.
-    let field = not-not (ltb p promptCount && stampFits (b .screens) l) fits in
+    let field = not-not (ltb p prompt_count && stamp_fits b.screens l) fits in
     record {
       sound-before = sound-at b (not-not (sound b) sound-before);
-      prompt-in = ltb→lt p promptCount (and-l (ltb p promptCount) (stampFits (b .screens) l) field);
-      label-fits = and-r (ltb p promptCount) (stampFits (b .screens) l) field;
-      covered = atMost-parts l (b .value) (not-not (atMost l (b .value)) covered);
+      prompt_in_lem = ltb→lt p prompt_count (and_l (ltb p prompt_count) (stamp_fits b.screens l) field);
+      label-fits = and_r (ltb p prompt_count) (stamp_fits b.screens l) field;
+      covered = at_most-parts l b.value (not-not (at_most l b.value) covered);
     })
 
-pub ask-cases :
+pub ask_cases :
     (b : Book) (p : ℕ) (l : Stamp)
-    → (T (not (isAnswered ((ask b p l) .reply))) × T (not (permits ((ask b p l) .reply))))
-    ⊎ (AskDone b p l × ((ask b p l) .reply ≡ answerOf (standingAt b p) (b .value)))
-unfolding ask askStops
-ask-cases b p l = go (firstOf (askStops b p l)) refl
+    → (T (not (is_answered (ask b p l).reply)) × T (not (permits (ask b p l).reply)))
+    ⊎ (AskDone b p l × ((ask b p l).reply ≡ answer_of (standing_at b p) b.value))
+unfolding ask ask_stops
+ask_cases b p l = go (first_of (ask_stops b p l)) refl
   where
     out : Outcome
-    out = record { reply = answerOf (standingAt b p) (b .value); book = b }
+    out = record { reply = answer_of (standing_at b p) b.value; book = b }
 
     go :
-        (o : Option Reply) → firstOf (askStops b p l) ≡ o
-        → (T (not (isAnswered ((stopOr b out (firstOf (askStops b p l))) .reply)))
-        × T (not (permits ((stopOr b out (firstOf (askStops b p l))) .reply))))
-        ⊎ (AskDone b p l × ((stopOr b out (firstOf (askStops b p l))) .reply ≡ answerOf (standingAt b p) (b .value)))
+        (o : Option Reply) → first_of (ask_stops b p l) ≡ o
+        → (T (not (is_answered (stop_or b out (first_of (ask_stops b p l))).reply))
+        × T (not (permits (stop_or b out (first_of (ask_stops b p l))).reply)))
+        ⊎ (AskDone b p l × ((stop_or b out (first_of (ask_stops b p l))).reply ≡ answer_of (standing_at b p) b.value))
     go (some r) e =
         inl (
-          subst (λ (x : Option Reply). T (not (isAnswered ((stopOr b out x) .reply)))) (sym e)
-              (first-passes (λ x. not (isAnswered x)) (askStops b p l) tt r e),
-          subst (λ (x : Option Reply). T (not (permits ((stopOr b out x) .reply)))) (sym e)
-              (first-passes (λ x. not (permits x)) (askStops b p l) tt r e),
+          subst (λ (x : Option Reply). T (not (is_answered (stop_or b out x).reply))) (sym e)
+              (first_passes (λ x. not (is_answered x)) (ask_stops b p l) tt r e),
+          subst (λ (x : Option Reply). T (not (permits (stop_or b out x).reply))) (sym e)
+              (first_passes (λ x. not (permits x)) (ask_stops b p l) tt r e),
         )
     go none e =
-        inr (ask-passed b p l (firstOf-none (askStops b p l) e), ap (λ (x : Option Reply). (stopOr b out x) .reply) e)
+        inr (ask-passed b p l (first_of-none (ask_stops b p l) e), ap (λ (x : Option Reply). (stop_or b out x).reply) e)
 
 -- refusal 3 is given only to a label whose part i exceeds the known stamp's
-label-exceeds : (b : Book) (l : Stamp) → T (unknownLabel b l) → part (known b) (b .me) < part l (b .me)
-label-exceeds b l t = ltb→lt (part (known b) (b .me)) (part l (b .me)) t
+label_exceeds : (b : Book) (l : Stamp) → T (unknown_label b l) → part (known b) b.me < part l b.me
+label_exceeds b l t = ltb→lt (part (known b) b.me) (part l b.me) t
 
 pub ask-answers : (b : Book) (p : ℕ) (l : Stamp) → AskDone b p l
-    → (ask b p l) .reply ≡ answerOf (standingAt b p) (b .value)
-unfolding ask askStops
+    → (ask b p l).reply ≡ answer_of (standing_at b p) b.value
+unfolding ask ask_stops
 ask-answers b p l d = ap
-    (λ (x : Option Reply). (stopOr b (record { reply = answerOf (standingAt b p) (b .value); book = b }) x) .reply)
-    (none-first (askStops b p l) clear)
+    (λ (x : Option Reply). (stop_or b (record { reply = answer_of (standing_at b p) b.value; book = b }) x).reply)
+    (none_first (ask_stops b p l) clear)
   where
-    clear : T (every (λ c. not (c .0)) (askStops b p l))
+    clear : T (every (λ c. not c.0) (ask_stops b p l))
     clear =
-        all-from {cs = not (not (sound b)) ∷ not (not (ltb p promptCount && stampFits (b .screens) l))
-        ∷ not (unknownLabel b l) ∷ not (not (atMost l (b .value))) ∷ []}
-        (not-intro (sound b) (at-sound b (d .sound-before))
-        also not-intro (ltb p promptCount && stampFits (b .screens) l)
-        (both (ltb p promptCount) (stampFits (b .screens) l) (lt→ltb p promptCount (d .prompt-in)) (d .label-fits))
-        also not-from (unknownLabel b l)
-        (λ u. omega (arith, label-exceeds b l u, d .covered (b .me), d .sound-before .value-known (b .me)))
-        also not-intro (atMost l (b .value)) (parts-atMost l (b .value) (d .covered))
+        all_from {cs = not (not (sound b)) ∷ not (not (ltb p prompt_count && stamp_fits b.screens l))
+        ∷ not (unknown_label b l) ∷ not (not (at_most l b.value)) ∷ []}
+        (not_intro (sound b) (at-sound b d.sound-before)
+        also not_intro (ltb p prompt_count && stamp_fits b.screens l)
+        (both (ltb p prompt_count) (stamp_fits b.screens l) (lt→ltb p prompt_count d.prompt_in_lem) d.label-fits)
+        also not-from (unknown_label b l)
+        (λ u. omega (arith, label_exceeds b l u, d.covered b.me, d.sound-before.value-known b.me))
+        also not_intro (at_most l b.value) (parts-at_most l b.value d.covered)
         also done)
 
-is-answer : (s : Standing) (v : Stamp) → isAnswered (answerOf s v) ≡ true
-unfolding answerOf
+is-answer : (s : Standing) (v : Stamp) → is_answered (answer_of s v) ≡ true
+unfolding answer_of
 is-answer s v = refl
 
 -- A well-formed question to a sound book is answered exactly when the book's value stamp covers its label.
-pub answered-exactly : (b : Book) (p : ℕ) (l : Stamp) → T (sound b) → p < promptCount → T (stampFits (b .screens) l)
-    → isAnswered ((ask b p l) .reply) ≡ atMost l (b .value)
-answered-exactly b p l s h f =
-    either (tell (atMost l (b .value)))
-    (λ c. ap isAnswered (ask-answers b p l
-    (record { sound-before = sound-at b s; prompt-in = h; label-fits = f; covered = atMost-parts l (b .value) c }))
-    ∙ is-answer (standingAt b p) (b .value) ∙ sym (is-true (atMost l (b .value)) c))
-    (λ c. either (ask-cases b p l)
-    (λ w. is-false (isAnswered ((ask b p l) .reply)) (w .0) ∙ sym (is-false (atMost l (b .value)) c))
-    (λ w. clash (atMost l (b .value)) (parts-atMost l (b .value) (w .0 .covered)) c))
+pub answered_exactly : (b : Book) (p : ℕ) (l : Stamp) → T (sound b) → p < prompt_count → T (stamp_fits b.screens l)
+    → is_answered (ask b p l).reply ≡ at_most l b.value
+answered_exactly b p l s h f =
+    either (tell (at_most l b.value))
+    (λ c. ap is_answered (ask-answers b p l
+    (record { sound-before = sound-at b s; prompt_in_lem = h; label-fits = f; covered = at_most-parts l b.value c }))
+    ∙ is-answer (standing_at b p) b.value ∙ sym (is_true (at_most l b.value) c))
+    (λ c. either (ask_cases b p l)
+    (λ w. is_false (is_answered (ask b p l).reply) w.0 ∙ sym (is_false (at_most l b.value) c))
+    (λ w. clash (at_most l b.value) (parts-at_most l b.value w.0.covered) c))
 
 -- an answered question was not stopped
-pub answered-done : (b : Book) (p : ℕ) (l : Stamp) → T (isAnswered ((ask b p l) .reply)) → AskDone b p l
-answered-done b p l t = either (ask-cases b p l) (λ w. clash (isAnswered ((ask b p l) .reply)) t (w .0)) (λ w. w .0)
+pub answered-done : (b : Book) (p : ℕ) (l : Stamp) → T (is_answered (ask b p l).reply) → AskDone b p l
+answered-done b p l t = either (ask_cases b p l) (λ w. clash (is_answered (ask b p l).reply) t w.0) (λ w. w.0)
 
-pub done-answered : (b : Book) (p : ℕ) (l : Stamp) → AskDone b p l → T (isAnswered ((ask b p l) .reply))
-done-answered b p l d = subst T (sym (ap isAnswered (ask-answers b p l d) ∙ is-answer (standingAt b p) (b .value))) tt
+pub done-answered : (b : Book) (p : ℕ) (l : Stamp) → AskDone b p l → T (is_answered (ask b p l).reply)
+done-answered b p l d = subst T (sym (ap is_answered (ask-answers b p l d) ∙ is-answer (standing_at b p) b.value)) tt
 
 -- what Permission's yes means
 pub record Permitted (b : Book) (p : ℕ) (l : Stamp) : Type 0 where
   pub asked : AskDone b p l
-  pub yes : verdictOf (standingAt b p) ≡ accepted
-  pub shown : showingOf ((ask b p l) .reply) ≡ (standingAt b p) .showing
+  pub yes : verdict_of (standing_at b p) ≡ accepted
+  pub shown : showing_of (ask b p l).reply ≡ (standing_at b p).showing
 
-answer-showing : (s : Standing) (v : Stamp) → showingOf (answerOf s v) ≡ s .showing
-unfolding answerOf
+answer-showing : (s : Standing) (v : Stamp) → showing_of (answer_of s v) ≡ s.showing
+unfolding answer_of
 answer-showing s v = refl
 
-answer-permits : (s : Standing) (v : Stamp) → T (permits (answerOf s v)) → verdictOf s ≡ accepted
-unfolding answerOf
-answer-permits s v t = eqb→eq (verdictOf s) accepted t
+answer-permits : (s : Standing) (v : Stamp) → T (permits (answer_of s v)) → verdict_of s ≡ accepted
+unfolding answer_of
+answer-permits s v t = eqb→eq (verdict_of s) accepted t
 
-pub permits-means : (b : Book) (p : ℕ) (l : Stamp) → T (permits ((ask b p l) .reply)) → Permitted b p l
+pub permits-means : (b : Book) (p : ℕ) (l : Stamp) → T (permits (ask b p l).reply) → Permitted b p l
 permits-means b p l t =
-    either (ask-cases b p l) (λ w. clash (permits ((ask b p l) .reply)) t (w .1))
+    either (ask_cases b p l) (λ w. clash (permits (ask b p l).reply) t w.1)
     (λ w.
     record {
-      asked = w .0;
-      yes = answer-permits (standingAt b p) (b .value) (subst (λ (r : Reply). T (permits r)) (w .1) t);
-      shown = ap showingOf (w .1) ∙ answer-showing (standingAt b p) (b .value);
+      asked = w.0;
+      yes = answer-permits (standing_at b p) b.value (subst (λ (r : Reply). T (permits r)) w.1 t);
+      shown = ap showing_of w.1 ∙ answer-showing (standing_at b p) b.value;
     })
 
 -- Permission: yes exactly when the question is answered and the verdict is Accepted.
-permits-answer : (s : Standing) (v : Stamp) → T (eqb (verdictOf s) accepted) → T (permits (answerOf s v))
-unfolding answerOf
+permits-answer : (s : Standing) (v : Stamp) → T (eqb (verdict_of s) accepted) → T (permits (answer_of s v))
+unfolding answer_of
 permits-answer s v t = t
 
-pub permits-exactly : (b : Book) (p : ℕ) (l : Stamp)
-    → permits ((ask b p l) .reply) ≡ (isAnswered ((ask b p l) .reply) && eqb (verdictOf (standingAt b p)) accepted)
-permits-exactly b p l = same-test (permits r) (isAnswered r && eqb (verdictOf (standingAt b p)) accepted)
+pub permits_exactly : (b : Book) (p : ℕ) (l : Stamp)
+    → permits (ask b p l).reply ≡ (is_answered (ask b p l).reply && eqb (verdict_of (standing_at b p)) accepted)
+permits_exactly b p l = same_test (permits r) (is_answered r && eqb (verdict_of (standing_at b p)) accepted)
     (λ t. only (permits-means b p l t))
-    (λ t. enough (and-l (isAnswered r) (eqb (verdictOf (standingAt b p)) accepted) t)
-    (and-r (isAnswered r) (eqb (verdictOf (standingAt b p)) accepted) t))
+    (λ t. enough (and_l (is_answered r) (eqb (verdict_of (standing_at b p)) accepted) t)
+    (and_r (is_answered r) (eqb (verdict_of (standing_at b p)) accepted) t))
   where
     r : Reply
-    r = (ask b p l) .reply
+    r = (ask b p l).reply
 
-    only : Permitted b p l → T (isAnswered r && eqb (verdictOf (standingAt b p)) accepted)
-    only y = both (isAnswered r) (eqb (verdictOf (standingAt b p)) accepted) (done-answered b p l (y .asked))
-        (eq→eqb (verdictOf (standingAt b p)) accepted (y .yes))
+    only : Permitted b p l → T (is_answered r && eqb (verdict_of (standing_at b p)) accepted)
+    only y = both (is_answered r) (eqb (verdict_of (standing_at b p)) accepted) (done-answered b p l y.asked)
+        (eq→eqb (verdict_of (standing_at b p)) accepted y.yes)
 
-    enough : T (isAnswered r) → T (eqb (verdictOf (standingAt b p)) accepted) → T (permits r)
+    enough : T (is_answered r) → T (eqb (verdict_of (standing_at b p)) accepted) → T (permits r)
     enough a e = subst (λ (x : Reply). T (permits x)) (sym (ask-answers b p l (answered-done b p l a)))
-        (permits-answer (standingAt b p) (b .value) e)
+        (permits-answer (standing_at b p) b.value e)
 
 -- the number and the values settle the reply
 reading : List ℕ → Reply
 reading ns =
-    cond (eqb (getD ns 0 0) 5) (taken (drop 1 ns))
-    (cond (eqb (getD ns 0 0) 6) (already (drop 1 ns))
-    (cond (eqb (getD ns 0 0) 7) (verdict (getD ns 1 0) (getD ns 2 0) (getD ns 3 0) (getD ns 4 0) (drop 5 ns))
-    (cond (eqb (getD ns 0 0) 8) (wait (getD ns 1 0))
-    (cond (eqb (getD ns 0 0) 9) (refusal (getD ns 1 0))
-    (gossiped (getD ns 1 0) (getD ns 2 0))))))
+    cond (eqb (get_or ns 0 0) 5) (taken (drop 1 ns))
+    (cond (eqb (get_or ns 0 0) 6) (already (drop 1 ns))
+    (cond (eqb (get_or ns 0 0) 7) (verdict (get_or ns 1 0) (get_or ns 2 0) (get_or ns 3 0) (get_or ns 4 0) (drop 5 ns))
+    (cond (eqb (get_or ns 0 0) 8) (wait (get_or ns 1 0))
+    (cond (eqb (get_or ns 0 0) 9) (refusal (get_or ns 1 0))
+    (gossiped (get_or ns 1 0) (get_or ns 2 0))))))
 
 read-figures : (r : Reply) → reading (figures r) ≡ r
 unfolding reading

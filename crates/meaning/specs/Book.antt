@@ -1,21 +1,17 @@
 -- The book of a screen, when it is sound, and the fresh book. Assumes nothing.
-use Prim.Native.Nat.{ℕ, _+_}
-use mathlib.Core.Bool.{Bool, not, _||_}
-use mathlib.Core.List.{List, [], _∷_}
-use lib.Dec.{eqb, leb}
-use lib.ListN.{getD, replicate, length}
-use Rattle·lists.specs.Order.{rising}
-use Rattle·lists.specs.Tests.{every, all}
-use Rattle·limits.specs.Limits.{logRoom, bookRoom}
-use Rattle·stamp.specs.Stamp.{Stamp, zeros, stampFits, total, atMost}
-use Rattle·tally.specs.Body.{tapsIn, bodyFits}
-use Rattle·tally.specs.Standing.{blank, afresh, among, sameCounts}
-use Rattle·tally.specs.Tap.{fields, tapFits}
-use Rattle·tally.specs.declared.Standing.{Standing}
-use Rattle·tally.specs.declared.Tap.{Tap}
-use Rattle·ledger.specs.Log.{readyStamp, waitingIn, allHeld}
-use Rattle·ledger.specs.Message.{inRange}
-use Rattle·ledger.specs.Record.{Record, place, isKnown, recordFits, mayGo, isApplied, stampOf}
+use Rattle.std.specs.Prelude.{ℕ, ◌+◌, Bool, not, ◌||◌, List, [], ◌∷◌, eqb, leb, get_or, replicate, length}
+use Rattle.lists.specs.Order.{rising}
+use Rattle.lists.specs.Tests.{every, all}
+use Rattle.limits.specs.Limits.{log_room, book_room}
+use Rattle.stamp.specs.Stamp.{Stamp, zeros, stamp_fits, total, at_most}
+use Rattle.tally.specs.Body.{taps_in, body_fits}
+use Rattle.tally.specs.Standing.{blank, afresh, among, same_counts}
+use Rattle.tally.specs.Tap.{fields, tap_fits}
+use Rattle.tally.specs.declared.Standing.{Standing}
+use Rattle.tally.specs.declared.Tap.{Tap}
+use Rattle.ledger.specs.Log.{ready_stamp, waiting_in, all_held}
+use Rattle.ledger.specs.Message.{in_range}
+use Rattle.ledger.specs.Record.{Record, place, is_known, record_fits, may_go, is_applied, stamp_of}
 
 -- The book of screen i (`me`) of N (`screens`) holds:
 pub record Book : Type 0 where
@@ -35,22 +31,22 @@ pub record Book : Type 0 where
 
 -- row j, and the known stamp: part k says how many of screen k's records are known here, always the first so many
 unfoldable pub row : Book → ℕ → Stamp
-row b j = getD (b .table) j []
+row b j = get_or b.table j []
 
 unfoldable pub known : Book → Stamp
-known b = row b (b .me)
+known b = row b b.me
 
 -- the ready stamp: a record is applied here under it
 unfoldable pub ready : Book → Stamp
-ready b = readyStamp (known b) (b .log)
+ready b = ready_stamp (known b) b.log
 
 -- showing, accepts and declines of a prompt
-unfoldable pub standingAt : Book → ℕ → Standing
-standingAt b p = getD (b .prompts) p blank
+unfoldable pub standing_at : Book → ℕ → Standing
+standing_at b p = get_or b.prompts p blank
 
 -- the log's waiting records: no others wait
 unfoldable pub waiting : Book → List Record
-waiting b = waitingIn (known b) (ready b) (b .log)
+waiting b = waiting_in (known b) (ready b) b.log
 
 -- Open writes the fresh book of screen i of N
 unfoldable pub fresh : ℕ → ℕ → Book
@@ -66,42 +62,42 @@ fresh i n = record {
 
 -- the record has the tap; its taps are all among some taps
 unfoldable pub holds : Tap → Record → Bool
-holds t r = among (tapsIn (r .body)) t
+holds t r = among (taps_in r.body) t
 
-unfoldable pub countedIn : List Tap → Record → Bool
-countedIn ts r = every (among ts) (tapsIn (r .body))
+unfoldable pub counted_in : List Tap → Record → Bool
+counted_in ts r = every (among ts) (taps_in r.body)
 
 -- A lent book is sound exactly when:
 unfoldable pub clauses : Book → List Bool
 clauses b =
     -- i and N are in range and all orders, limits and zeros hold
-    inRange (b .me) (b .screens)
-    ∷ eqb (length (b .table)) (b .screens)
-    ∷ every (stampFits (b .screens)) (b .table)
-    ∷ stampFits (b .screens) (b .value)
-    ∷ rising place (b .log)
-    ∷ rising fields (b .counted)
-    ∷ every tapFits (b .counted)
-    ∷ leb (length (b .log)) logRoom
-    ∷ leb (total (known b)) bookRoom
+    in_range b.me b.screens
+    ∷ eqb (length b.table) b.screens
+    ∷ every (stamp_fits b.screens) b.table
+    ∷ stamp_fits b.screens b.value
+    ∷ rising place b.log
+    ∷ rising fields b.counted
+    ∷ every tap_fits b.counted
+    ∷ leb (length b.log) log_room
+    ∷ leb (total (known b)) book_room
     -- row i is the known stamp (it is held once) and no row exceeds it
-    ∷ every (λ s. atMost s (known b)) (b .table)
+    ∷ every (λ s. at_most s (known b)) b.table
     -- log records are known and obey the wire's field rules
-    ∷ every (isKnown (known b)) (b .log)
-    ∷ every (recordFits bodyFits (b .screens)) (b .log)
+    ∷ every (is_known (known b)) b.log
+    ∷ every (record_fits body_fits b.screens) b.log
     -- every known record is in the log or known everywhere, and none in the log is both applied and known everywhere
-    ∷ allHeld (b .screens) (known b) (b .table) (b .log)
-    ∷ every (λ r. not (mayGo (ready b) (b .table) r)) (b .log)
+    ∷ all_held b.screens (known b) b.table b.log
+    ∷ every (λ r. not (may_go (ready b) b.table r)) b.log
     -- each applied log record's tap is counted
-    ∷ every (λ r. not (isApplied (ready b) r) || countedIn (b .counted) r) (b .log)
+    ∷ every (λ r. not (is_applied (ready b) r) || counted_in b.counted r) b.log
     -- counted taps, and each prompt's two counts together, number at most the known records less the waiting ones
-    ∷ leb (length (b .counted) + length (waiting b)) (total (known b))
-    ∷ every (λ s. leb (s .accepts + s .declines + length (waiting b)) (total (known b))) (b .prompts)
+    ∷ leb (length b.counted + length (waiting b)) (total (known b))
+    ∷ every (λ s. leb (s.accepts + s.declines + length (waiting b)) (total (known b))) b.prompts
     -- counts follow from counted taps
-    ∷ sameCounts (b .prompts) (afresh (b .counted))
+    ∷ same_counts b.prompts (afresh b.counted)
     -- the value stamp is at most the known stamp and covers each applied log record's stamp
-    ∷ atMost (b .value) (known b)
-    ∷ every (λ r. not (isApplied (ready b) r) || atMost (stampOf r) (b .value)) (b .log)
+    ∷ at_most b.value (known b)
+    ∷ every (λ r. not (is_applied (ready b) r) || at_most (stamp_of r) b.value) b.log
     ∷ []
 
 unfoldable pub sound : Book → Bool

@@ -1,9 +1,9 @@
 -- For the code: today the ready stamp of a book is its known stamp. Order 7 retires this law; no other proof opens the
--- name `readyStamp` but the three of ledger's ReadyLaws. Assumes nothing.
-use mathlib.Core.Path.{_≡_, refl}
-use Rattle·ledger.specs.Log.{readyStamp}
-use Rattle·meaning·specs.specs.Book.{Book, known, ready}
+-- name `ready_stamp` but the three of ledger's ReadyLaws. Assumes nothing.
+use Rattle.std.specs.Prelude.{◌≡◌, refl}
+use Rattle.ledger.specs.Log.{ready_stamp}
+use Rattle.meaning.specs.Book.{Book, known, ready}
 
 pub ready-known : (b : Book) → ready b ≡ known b
-unfolding ready readyStamp
+unfolding ready ready_stamp
 ready-known b = refl

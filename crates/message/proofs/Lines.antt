@@ -1,76 +1,76 @@
 -- What `read_gossip` has settled where it returns. Assumes nothing.
-use Prim.Native.Nat.{ℕ, _+_, _*_, _≤_, _<_}
+use Prim.Native.Nat.{ℕ, ◌+◌, ◌*◌, ◌≤◌, ◌<◌}
 use native.Mathlib.Omega.{arith}
-use mathlib.Core.Path.{_≡_}
+use mathlib.Core.Path.{◌≡◌}
 use mathlib.Core.Bool.{true, false}
 use mathlib.Core.List.{List}
 use lib.Dec.{leb→le}
 use lib.ListN.{length, take, length-take}
-use borrow.Author.Tests.{eq-eqb, ne-eqb}
-use Rattle·lists.specs.TestLaws.{is-true, is-false, not-from}
-use Rattle·limits.specs.Limits.{logRoom}
-use Rattle·stamp.specs.declared.Parts.{Parts}
-use Rattle·stamp.specs.Parts.{listOf, partsAt}
-use Rattle·wire.specs.Kinds.{headKind, recordKind, headLong, recordLong}
-use Rattle·wire.specs.Laws.{length-readable, lawful-head}
-use Rattle·wire.specs.Read.{readable, readAs}
-use Rattle·wire.specs.ReadLaws.{told}
-use Rattle·wire.specs.declared.Said.the-variants as said
-use Rattle·wire.specs.Head.{headLine, countIn}
-use Rattle·message·specs.specs.Message.{partsOf, inOrder, wellFormed, readGossip}
-use Rattle·message·specs.specs.Parts.{head-rules}
-use Rattle·message·specs.specs.Told.{head-in, head-count}
+use borrow.Author.Tests.{eq-eqb, ne_eqb}
+use Rattle.lists.specs.TestLaws.{is_true, is_false, not-from}
+use Rattle.limits.specs.Limits.{log_room}
+use Rattle.stamp.specs.declared.Parts.{Parts}
+use Rattle.stamp.specs.Parts.{list_of, parts_at}
+use Rattle.wire.specs.Kinds.{head_kind, record_kind, head_long, record_long}
+use Rattle.wire.specs.Laws.{length-readable, lawful-head}
+use Rattle.wire.specs.Read.{readable, read_as}
+use Rattle.wire.specs.ReadLaws.{told}
+use Rattle.wire.specs.declared.Said.TheVariants as said
+use Rattle.wire.specs.Head.{head_line, count_in}
+use Rattle.message.specs.Message.{parts_of, in_order, well_formed, read_gossip}
+use Rattle.message.specs.Parts.{head-rules}
+use Rattle.message.specs.Told.{head_in, head-count}
 
-pub headless : (bytes : List ℕ) → readable headKind (take headLong bytes) ≡ false → said.Unreadable 1 ≡ readGossip bytes
-unfolding readGossip wellFormed
+pub headless : (bytes : List ℕ) → readable head_kind (take head_long bytes) ≡ false → said.Unreadable 1 ≡ read_gossip bytes
+unfolding read_gossip well_formed
 headless bytes e = rw e
 
-pub too-short : (bytes : List ℕ) → length bytes < headLong → said.Unreadable 1 ≡ readGossip bytes
-unfolding headKind
-too-short bytes h =
-    headless bytes (is-false (readable headKind (take headLong bytes))
-    (not-from (readable headKind (take headLong bytes))
-    (λ r. omega (arith, length-readable headKind lawful-head (take headLong bytes) r, length-take headLong bytes))))
+pub too_short : (bytes : List ℕ) → length bytes < head_long → said.Unreadable 1 ≡ read_gossip bytes
+unfolding head_kind
+too_short bytes h =
+    headless bytes (is_false (readable head_kind (take head_long bytes))
+    (not-from (readable head_kind (take head_long bytes))
+    (λ r. omega (arith, length-readable head_kind lawful-head (take head_long bytes) r, length-take head_long bytes))))
 
 module _ (bytes : List ℕ) (sender screens count : ℕ) (stamp : Parts)
-    (read : said.Head sender screens count stamp ≡ readAs headKind (take headLong bytes)) where
-  has-head : readable headKind (take headLong bytes) ≡ true
-  has-head = is-true (readable headKind (take headLong bytes))
-      (told headKind (take headLong bytes) (said.Head sender screens count stamp) read (omega arith) .0)
+    (read : said.Head sender screens count stamp ≡ read_as head_kind (take head_long bytes)) where
+  has-head : readable head_kind (take head_long bytes) ≡ true
+  has-head = is_true (readable head_kind (take head_long bytes))
+      (told head_kind (take head_long bytes) (said.Head sender screens count stamp) read (omega arith)).0
 
   -- no more records than a log holds
-  pub few : count ≤ logRoom
-  unfolding headLine
+  pub few : count ≤ log_room
+  unfolding head_line
   few =
-      let t = told headKind (take headLong bytes) (said.Head sender screens count stamp) read (omega arith) in
-      let kept = leb→le (countIn bytes) logRoom (head-rules (take headLong bytes) (t .0) .1) in
+      let t = told head_kind (take head_long bytes) (said.Head sender screens count stamp) read (omega arith) in
+      let kept = leb→le (count_in bytes) log_room (head-rules (take head_long bytes) t.0).1 in
       omega (arith, kept, head-count bytes sender screens count stamp read)
 
-  pub wrong-long : (length bytes ≡ headLong + count * recordLong → ⊥) → said.Unreadable 1 ≡ readGossip bytes
-  unfolding readGossip wellFormed
+  pub wrong-long : (length bytes ≡ head_long + count * record_long → ⊥) → said.Unreadable 1 ≡ read_gossip bytes
+  unfolding read_gossip well_formed
   wrong-long n = rw (
     has-head,
-    head-in bytes sender screens count stamp read,
-    ne-eqb (length bytes) (headLong + count * recordLong) n,
+    head_in bytes sender screens count stamp read,
+    ne_eqb (length bytes) (head_long + count * record_long) n,
   )
 
-  module _ (long : length bytes ≡ headLong + count * recordLong) where
-    pub disorder : inOrder (recordKind screens (listOf stamp)) (partsOf count bytes) ≡ false
-        → said.Unreadable 1 ≡ readGossip bytes
-    unfolding readGossip wellFormed partsAt listOf
+  module _ (long : length bytes ≡ head_long + count * record_long) where
+    pub disorder : in_order (record_kind screens (list_of stamp)) (parts_of count bytes) ≡ false
+        → said.Unreadable 1 ≡ read_gossip bytes
+    unfolding read_gossip well_formed parts_at list_of
     disorder e = rw (
       has-head,
-      head-in bytes sender screens count stamp read,
-      eq-eqb (length bytes) (headLong + count * recordLong) long,
+      head_in bytes sender screens count stamp read,
+      eq-eqb (length bytes) (head_long + count * record_long) long,
       e,
     )
 
-    pub whole : inOrder (recordKind screens (listOf stamp)) (partsOf count bytes) ≡ true
-        → said.Head sender screens count stamp ≡ readGossip bytes
-    unfolding readGossip wellFormed partsAt listOf headKind
+    pub whole : in_order (record_kind screens (list_of stamp)) (parts_of count bytes) ≡ true
+        → said.Head sender screens count stamp ≡ read_gossip bytes
+    unfolding read_gossip well_formed parts_at list_of head_kind
     whole e = rw (
       has-head,
-      head-in bytes sender screens count stamp read,
-      eq-eqb (length bytes) (headLong + count * recordLong) long,
+      head_in bytes sender screens count stamp read,
+      eq-eqb (length bytes) (head_long + count * record_long) long,
       e,
     )

@@ -2,71 +2,65 @@
 --     part-at      record i is the part from its own first byte
 --     head-rules, part-rules
 --                  the rules that a readable head, and a readable part, keep
-use Prim.Native.Nat.{ℕ, suc, _+_, _*_, _<_}
-use native.Mathlib.Numerals.{add-one}
-use mathlib.Core.Path.{_≡_, ap, _∙_}
-use mathlib.Core.Bool.{_&&_}
-use mathlib.Core.List.{List, [], _∷_}
-use lib.Dec.{T, leb}
-use lib.ListN.{length, getD, take, drop}
-use lib.Seq.{drop-cons, drop-drop}
-use Rattle·lists.specs.Part.{mid}
-use Rattle·lists.specs.RowLaws.{length-rows, rows-at}
-use Rattle·lists.specs.TestLaws.{and-l, and-r}
-use Rattle·limits.specs.Limits.{logRoom}
-use Rattle·stamp.specs.Stamp.{Stamp, stampFits}
-use Rattle·tally.specs.Body.{bodyFits}
-use Rattle·tally.specs.Tap.{tapFits}
-use Rattle·ledger.specs.Message.{inRange}
-use Rattle·ledger.specs.Record.{recordFits, isKnown}
-use Rattle·wire.specs.Kinds.{headKind, recordKind, recordIn, stampAt, shaped, headLong, recordLong}
-use Rattle·wire.specs.Read.{lineOf, readable}
-use Rattle·message·specs.specs.Message.{partsOf, tapIn, recordFrom}
-use Rattle·message·specs.specs.Find.{partAt}
+use Rattle.std.specs.Prelude.{ℕ, suc, ◌+◌, ◌*◌, ◌<◌, ◌≡◌, ◌&&◌, List, [], ◌∷◌, T, leb, length, get_or, take, drop}
+use Rattle.std.proofs.Common.{add-one, ap, ◌∙◌, drop-cons, drop-drop}
+use Rattle.lists.specs.Part.{mid}
+use Rattle.lists.specs.RowLaws.{length-rows, rows_at}
+use Rattle.lists.specs.TestLaws.{and_l, and_r}
+use Rattle.limits.specs.Limits.{log_room}
+use Rattle.stamp.specs.Stamp.{Stamp, stamp_fits}
+use Rattle.tally.specs.Body.{body_fits}
+use Rattle.tally.specs.Tap.{tap_fits}
+use Rattle.ledger.specs.Message.{in_range}
+use Rattle.ledger.specs.Record.{record_fits, is_known}
+use Rattle.wire.specs.Kinds.{head_kind, record_kind, record_in, stamp_at, shaped, head_long, record_long}
+use Rattle.wire.specs.Read.{line_of, readable}
+use Rattle.message.specs.Message.{parts_of, tap_in, record_from}
+use Rattle.message.specs.Find.{part_at}
 
-pub length-parts : (n : ℕ) (bytes : List ℕ) → length (partsOf n bytes) ≡ n
-unfolding partsOf
-length-parts n bytes = length-rows recordLong n (drop headLong bytes)
+pub length-parts : (n : ℕ) (bytes : List ℕ) → length (parts_of n bytes) ≡ n
+unfolding parts_of
+length-parts n bytes = length-rows record_long n (drop head_long bytes)
 
-pub part-at : (n : ℕ) (bytes : List ℕ) (i : ℕ) → i < n → getD (partsOf n bytes) i [] ≡ partAt i bytes
-unfolding partsOf partAt mid
-part-at n bytes i h = rows-at recordLong n (drop headLong bytes) i h
-    ∙ ap (take recordLong) (drop-drop (i * recordLong) headLong bytes)
+pub part-at : (n : ℕ) (bytes : List ℕ) (i : ℕ) → i < n → get_or (parts_of n bytes) i [] ≡ part_at i bytes
+unfolding parts_of part_at mid
+part-at n bytes i h = rows_at record_long n (drop head_long bytes) i h
+    ∙ ap (take record_long) (drop-drop (i * record_long) head_long bytes)
 
 pub next-part : (n : ℕ) (bytes : List ℕ) (i : ℕ) → i < n
-    → drop i (partsOf n bytes) ≡ partAt i bytes ∷ drop (i + 1) (partsOf n bytes)
+    → drop i (parts_of n bytes) ≡ part_at i bytes ∷ drop (i + 1) (parts_of n bytes)
 next-part n bytes i h =
-    rw add-one (drop-cons (partsOf n bytes) i [] (rw (length-parts n bytes) h)
-    ∙ ap (λ (p : List ℕ). p ∷ drop (suc i) (partsOf n bytes)) (part-at n bytes i h))
+    rw add-one (drop-cons (parts_of n bytes) i [] (rw (length-parts n bytes) h)
+    ∙ ap (λ (p : List ℕ). p ∷ drop (suc i) (parts_of n bytes)) (part-at n bytes i h))
 
 -- the rules that a readable head keeps
 pub head-rules :
-    (bytes : List ℕ) → T (readable headKind bytes)
-    → T (inRange (getD (lineOf headKind bytes) 1 0) (getD (lineOf headKind bytes) 2 0))
-    × T (leb (getD (lineOf headKind bytes) 3 0) logRoom)
-    × T (stampFits (getD (lineOf headKind bytes) 2 0) (stampAt 4 (lineOf headKind bytes)))
-unfolding readable headKind
+    (bytes : List ℕ) → T (readable head_kind bytes)
+    → T (in_range (get_or (line_of head_kind bytes) 1 0) (get_or (line_of head_kind bytes) 2 0))
+    × T (leb (get_or (line_of head_kind bytes) 3 0) log_room)
+    × T (stamp_fits (get_or (line_of head_kind bytes) 2 0) (stamp_at 4 (line_of head_kind bytes)))
+unfolding readable head_kind
 head-rules bytes r =
-    let l = lineOf headKind bytes in
-    let house = inRange (getD l 1 0) (getD l 2 0) in
-    let few = leb (getD l 3 0) logRoom in
-    let fits = stampFits (getD l 2 0) (stampAt 4 l) in
-    let k = and-r (shaped 1 bytes) (house && (few && fits)) r in
-    let rest = and-r house (few && fits) k in
-    (and-l house (few && fits) k, and-l few fits rest, and-r few fits rest)
+    let l = line_of head_kind bytes in
+    let house = in_range (get_or l 1 0) (get_or l 2 0) in
+    let few = leb (get_or l 3 0) log_room in
+    let fits = stamp_fits (get_or l 2 0) (stamp_at 4 l) in
+    let k = and_r (shaped 1 bytes) (house && (few && fits)) r in
+    let rest = and_r house (few && fits) k in
+    (and_l house (few && fits) k, and_l few fits rest, and_r few fits rest)
 
 -- the rules that a readable part keeps
 pub part-rules :
-    (n : ℕ) (m : Stamp) (part : List ℕ) → T (readable (recordKind n m) part)
-    → T (tapFits (tapIn (lineOf (recordKind n m) part)))
-    × T (recordFits bodyFits n (recordFrom (recordKind n m) part))
-    × T (isKnown m (recordFrom (recordKind n m) part))
-unfolding readable recordKind recordFrom
+    (n : ℕ) (m : Stamp) (part : List ℕ) → T (readable (record_kind n m) part)
+    → T (tap_fits (tap_in (line_of (record_kind n m) part)))
+    × T (record_fits body_fits n (record_from (record_kind n m) part))
+    × T (is_known m (record_from (record_kind n m) part))
+unfolding readable record_kind record_from
 part-rules n m part r =
-    let l = lineOf (recordKind n m) part in
-    let tap = tapFits (tapIn l) in
-    let fits = recordFits bodyFits n (recordIn l) in
-    let known = isKnown m (recordIn l) in
-    let k = and-r (shaped 2 part) (tap && (fits && known)) r in
-    let rest = and-r tap (fits && known) k in
-    (and-l tap (fits && known) k, and-l fits known rest, and-r fits known rest)
+    let l = line_of (record_kind n m) part in
+    let tap = tap_fits (tap_in l) in
+    let fits = record_fits body_fits n (record_in l) in
+    let known = is_known m (record_in l) in
+    let k = and_r (shaped 2 part) (tap && (fits && known)) r in
+    let rest = and_r tap (fits && known) k in
+    (and_l tap (fits && known) k, and_l fits known rest, and_r fits known rest)

@@ -1,24 +1,20 @@
 -- A reader's answer that has another's tag is not this one. Assumes nothing.
-use Prim.Native.Nat.{ℕ}
-use mathlib.Core.Path.{ap, subst}
-use mathlib.Core.Logic.{_≢_}
-use mathlib.Core.Bool.{not}
-use mathlib.Core.List.{List}
-use lib.Dec.{T, eqb}
-use mir.Val.{hasKey}
+use Rattle.std.specs.Prelude.{ℕ, ◌≢◌, not, List, T, eqb}
+use Rattle.std.proofs.Common.{ap, subst}
+use mir.Val.{has_key}
 use types.Run.{OneOf, miss}
-use Rattle·lists.specs.Tests.{numbers, keep}
-use Rattle·wire.specs.Said.{saidCases}
-use Rattle·wire.specs.declared.Said.{Said}
+use Rattle.lists.specs.Tests.{numbers, keep}
+use Rattle.wire.specs.Said.{said_cases}
+use Rattle.wire.specs.declared.Said.{Said}
 
-abbrev tagIn : Said → ℕ
-tagIn v = denote.Enum.Declared.tagOf Rattle·wire.proofs.Said.the-type v
+abbrev tag_in : Said → ℕ
+tag_in v = denote.Enum.Declared.tag_of Rattle.wire.specs.contracts.Said.the_type v
 
 -- the tags of all answers but one
-abbrev othersThan : ℕ → List ℕ
-othersThan n = keep (λ k. not (eqb k n)) (numbers 0 saidCases)
+abbrev others_than : ℕ → List ℕ
+others_than n = keep (λ k. not (eqb k n)) (numbers 0 said_cases)
 
-pub not-this : (v w : Said) → OneOf (othersThan (tagIn w)) (tagIn v) → T (not (hasKey (othersThan (tagIn w)) (tagIn w)))
+pub not-this : (v w : Said) → OneOf (others_than (tag_in w)) (tag_in v) → T (not (has_key (others_than (tag_in w)) (tag_in w)))
     → v ≢ w
-not-this v w h t q = miss (othersThan (tagIn w)) (tagIn w) t
-    (subst (OneOf (othersThan (tagIn w))) (ap (λ (x : Said). tagIn x) q) h)
+not-this v w h t q = miss (others_than (tag_in w)) (tag_in w) t
+    (subst (OneOf (others_than (tag_in w))) (ap (λ (x : Said). tag_in x) q) h)

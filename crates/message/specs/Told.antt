@@ -1,68 +1,62 @@
 -- Laws: what the reader's answer tells of a whole gossip message. Assumes nothing.
 --     well-head, well-long, well-order   a well formed message has a head, its length, and records in order
---     head-in          the head's values are what its reader says
+--     head_in          the head's values are what its reader says
 --     gossip-told      a message says that the bytes are well formed, and is the head's
 --     gossip-untold    any other answer says that they are not
-use Prim.Native.Nat.{ℕ, _+_, _*_, _<_}
-use native.Mathlib.Omega.{arith}
-use mathlib.Core.Path.{_≡_, _∙_}
-use mathlib.Core.Logic.{_≢_}
-use mathlib.Core.Bool.{false, _&&_}
-use mathlib.Core.List.{List, _∷_}
-use lib.Dec.{T, eqb, eqb→eq}
-use lib.ListN.{length, take}
-use Rattle·lists.specs.TestLaws.{and-l, and-r, is-true}
-use Rattle·stamp.specs.declared.Parts.{Parts}
-use Rattle·stamp.specs.Parts.{listOf}
-use Rattle·wire.specs.Kinds.{headKind, headLong, recordLong}
-use Rattle·wire.specs.Laws.{lawful-head}
-use Rattle·wire.specs.Read.{readable, readAs}
-use Rattle·wire.specs.ReadLaws.{answered, unanswered, told-line}
-use Rattle·wire.specs.Said.{figures}
-use Rattle·wire.specs.declared.Said.{Said}
-use Rattle·wire.specs.declared.Said.the-variants as said
-use Rattle·wire.specs.Head.{headLine, countIn}
-use Rattle·message·specs.specs.Message.{recordParts, recordsKind, inOrder, wellFormed, readGossip}
+use Rattle.std.specs.Prelude.{ℕ, ◌+◌, ◌*◌, ◌<◌, ◌≡◌, ◌≢◌, false, ◌&&◌, List, ◌∷◌, T, eqb, length, take}
+use Rattle.std.proofs.Common.{arith, ◌∙◌, eqb→eq}
+use Rattle.lists.specs.TestLaws.{and_l, and_r, is_true}
+use Rattle.stamp.specs.declared.Parts.{Parts}
+use Rattle.stamp.specs.Parts.{list_of}
+use Rattle.wire.specs.Kinds.{head_kind, head_long, record_long}
+use Rattle.wire.specs.Laws.{lawful-head}
+use Rattle.wire.specs.Read.{readable, read_as}
+use Rattle.wire.specs.ReadLaws.{answered, unanswered, told_line}
+use Rattle.wire.specs.Said.{figures}
+use Rattle.wire.specs.declared.Said.{Said}
+use Rattle.wire.specs.declared.Said.TheVariants as said
+use Rattle.wire.specs.Head.{head_line, count_in}
+use Rattle.message.specs.Message.{record_parts, records_kind, in_order, well_formed, read_gossip}
 
-module _ (bytes : List ℕ) (w : T (wellFormed bytes)) where
-  pub well-head : T (readable headKind (take headLong bytes))
-  unfolding wellFormed
-  well-head = and-l (readable headKind (take headLong bytes))
-      (eqb (length bytes) (headLong + countIn bytes * recordLong) && inOrder (recordsKind bytes) (recordParts bytes)) w
+module _ (bytes : List ℕ) (w : T (well_formed bytes)) where
+  pub well-head : T (readable head_kind (take head_long bytes))
+  unfolding well_formed
+  well-head = and_l (readable head_kind (take head_long bytes))
+      (eqb (length bytes) (head_long + count_in bytes * record_long) && in_order (records_kind bytes) (record_parts bytes)) w
 
-  later : T (eqb (length bytes) (headLong + countIn bytes * recordLong)
-      && inOrder (recordsKind bytes) (recordParts bytes))
-  unfolding wellFormed
-  later = and-r (readable headKind (take headLong bytes))
-      (eqb (length bytes) (headLong + countIn bytes * recordLong) && inOrder (recordsKind bytes) (recordParts bytes)) w
+  later : T (eqb (length bytes) (head_long + count_in bytes * record_long)
+      && in_order (records_kind bytes) (record_parts bytes))
+  unfolding well_formed
+  later = and_r (readable head_kind (take head_long bytes))
+      (eqb (length bytes) (head_long + count_in bytes * record_long) && in_order (records_kind bytes) (record_parts bytes)) w
 
-  pub well-long : length bytes ≡ headLong + countIn bytes * recordLong
-  well-long = eqb→eq (length bytes) (headLong + countIn bytes * recordLong)
-      (and-l (eqb (length bytes) (headLong + countIn bytes * recordLong))
-      (inOrder (recordsKind bytes) (recordParts bytes)) later)
+  pub well-long : length bytes ≡ head_long + count_in bytes * record_long
+  well-long = eqb→eq (length bytes) (head_long + count_in bytes * record_long)
+      (and_l (eqb (length bytes) (head_long + count_in bytes * record_long))
+      (in_order (records_kind bytes) (record_parts bytes)) later)
 
-  pub well-order : T (inOrder (recordsKind bytes) (recordParts bytes))
-  well-order = and-r (eqb (length bytes) (headLong + countIn bytes * recordLong))
-      (inOrder (recordsKind bytes) (recordParts bytes)) later
+  pub well-order : T (in_order (records_kind bytes) (record_parts bytes))
+  well-order = and_r (eqb (length bytes) (head_long + count_in bytes * record_long))
+      (in_order (records_kind bytes) (record_parts bytes)) later
 
 module _ (bytes : List ℕ) (sender screens count : ℕ) (stamp : Parts)
-    (read : said.Head sender screens count stamp ≡ readAs headKind (take headLong bytes)) where
-  pub head-in : headLine bytes ≡ 1 ∷ sender ∷ screens ∷ count ∷ listOf stamp
-  unfolding headLine
-  head-in = told-line headKind (take headLong bytes) (said.Head sender screens count stamp) read lawful-head
+    (read : said.Head sender screens count stamp ≡ read_as head_kind (take head_long bytes)) where
+  pub head_in : head_line bytes ≡ 1 ∷ sender ∷ screens ∷ count ∷ list_of stamp
+  unfolding head_line
+  head_in = told_line head_kind (take head_long bytes) (said.Head sender screens count stamp) read lawful-head
       (omega arith)
 
-  pub head-count : countIn bytes ≡ count
-  head-count = rw head-in
+  pub head-count : count_in bytes ≡ count
+  head-count = rw head_in
 
 -- what a reader's answer tells
-module _ (bytes : List ℕ) (v : Said) (read : v ≡ readGossip bytes) where
-  pub gossip-told : 0 < length (figures v) → T (wellFormed bytes) × (v ≡ readAs headKind (take headLong bytes))
-  unfolding readGossip readAs headLine
+module _ (bytes : List ℕ) (v : Said) (read : v ≡ read_gossip bytes) where
+  pub gossip-told : 0 < length (figures v) → T (well_formed bytes) × (v ≡ read_as head_kind (take head_long bytes))
+  unfolding read_gossip read_as head_line
   gossip-told h =
-      let t = answered (wellFormed bytes) (headKind .said (headLine bytes)) v read h in
-      (t .0, t .1 ∙ rw (is-true (readable headKind (take headLong bytes)) (well-head bytes (t .0))))
+      let t = answered (well_formed bytes) (head_kind.said (head_line bytes)) v read h in
+      (t.0, t.1 ∙ rw (is_true (readable head_kind (take head_long bytes)) (well-head bytes t.0)))
 
-  pub gossip-untold : v ≢ headKind .said (headLine bytes) → wellFormed bytes ≡ false
-  unfolding readGossip
-  gossip-untold = unanswered (wellFormed bytes) (headKind .said (headLine bytes)) v read
+  pub gossip-untold : v ≢ head_kind.said (head_line bytes) → well_formed bytes ≡ false
+  unfolding read_gossip
+  gossip-untold = unanswered (well_formed bytes) (head_kind.said (head_line bytes)) v read

@@ -1,30 +1,24 @@
 // The gossip message: its reader, and its records as parts of it.
+ghost use Rattle.std.specs.Prelude.{◌≡◌, ◌∷◌, [], ◌+◌, ◌*◌, ◌≤◌, length};
+ghost use Rattle.lists.specs.Order.{key_before};
+ghost use Rattle.stamp.specs.Parts.{list_of};
+ghost use Rattle.wire.specs.Kinds.{record_kind, head_long, record_long};
+ghost use Rattle.wire.specs.Read.{read_as};
+ghost use Rattle.message.specs.Message.{parts_of, in_order, read_gossip};
+ghost use Rattle.message.specs.Find.{part_at, origin_of, below, place_for, Finds};
+
 use numbers::wide;
-use requests::read_head;
-use requests::read_record;
+use requests::{read_head, read_record};
 use stamp::Parts;
-use wire::BAD;
-use wire::HEAD_SIZE;
-use wire::RECORD_SIZE;
-use wire::Said;
-ghost use mathlib.Core.Path.{_≡_};
-ghost use mathlib.Core.List.{_∷_, []};
-ghost use Prim.Native.Nat.{_+_, _*_, _≤_};
-ghost use lib.ListN.{length};
-ghost use Rattle·lists.specs.Order.{keyBefore};
-ghost use Rattle·stamp.specs.Parts.{listOf};
-ghost use Rattle·wire.specs.Kinds.{recordKind, headLong, recordLong};
-ghost use Rattle·wire.specs.Read.{readAs};
-ghost use Rattle·message·specs.specs.Message.{partsOf, inOrder, readGossip};
-ghost use Rattle·message·specs.specs.Find.{partAt, originOf, below, placeFor, Finds};
+use wire::{BAD, HEAD_SIZE, RECORD_SIZE, Said};
 
 // Where a record's origin stands.
 const ORIGIN: usize = 1;
 
 // Record i, handed on as a part of the message from its own first byte. The head has n screens and stamp m.
 pub fn record_at(msg: &[u8], i: usize, n: usize, m: Parts) -> Said
-    requires { ⌜ headLong + (i + 1) * recordLong ≤ length (now msg) ⌝ }
-    ensures { λ r. ⌜ r ≡ readAs (recordKind n (listOf m)) (partAt i (now (msg .entry))) ⌝ }
+    requires { head_long + (i + 1) * record_long ≤ length msg.now }
+    ensures { result ≡ read_as (record_kind n (list_of m)) (part_at i msg.now) }
 {
     let at = HEAD_SIZE + i * RECORD_SIZE;
     let e = at + RECORD_SIZE;
@@ -33,7 +27,7 @@ pub fn record_at(msg: &[u8], i: usize, n: usize, m: Parts) -> Said
 
 // Whether number q of origin k comes before number r of origin o.
 fn comes_before(k: u64, q: u64, o: u64, r: u64) -> bool
-    ensures { λ b. ⌜ b ≡ keyBefore (k ∷ q ∷ []) (o ∷ r ∷ []) ⌝ }
+    ensures { result ≡ key_before (k ∷ q ∷ []) (o ∷ r ∷ []) }
 {
     if k == o {
         return q < r;
@@ -44,8 +38,8 @@ fn comes_before(k: u64, q: u64, o: u64, r: u64) -> bool
 // Whether the records keep their rules and rise: each is compared with the one before it. Numbers start at 1, so every
 // record comes after number 0 of origin 0.
 fn in_order(msg: &[u8], count: usize, n: usize, m: Parts) -> bool
-    requires { ⌜ headLong + count * recordLong ≤ length (now msg) ⌝ }
-    ensures { λ r. ⌜ r ≡ inOrder (recordKind n (listOf m)) (partsOf count (now (msg .entry))) ⌝ }
+    requires { head_long + count * record_long ≤ length msg.now }
+    ensures { result ≡ in_order (record_kind n (list_of m)) (parts_of count msg.now) }
 {
     let mut k: u64 = 0;
     let mut q: u64 = 0;
@@ -73,7 +67,7 @@ fn in_order(msg: &[u8], count: usize, n: usize, m: Parts) -> bool
 
 // The head, if the whole message is well formed.
 pub fn read_gossip(msg: &[u8]) -> Said
-    ensures { λ r. ⌜ r ≡ readGossip (now (msg .entry)) ⌝ }
+    ensures { result ≡ read_gossip msg.now }
 {
     if msg.len() < HEAD_SIZE {
         return Said::Unreadable(BAD);
@@ -104,24 +98,24 @@ pub fn read_gossip(msg: &[u8]) -> Said
 }
 
 fn origin_of(part: &[u8]) -> u64
-    requires { ⌜ length (now part) ≡ recordLong ⌝ }
-    ensures { λ r. ⌜ r ≡ originOf (now (part .entry)) ⌝ }
+    requires { length part.now ≡ record_long }
+    ensures { result ≡ origin_of part.now }
 {
     wide(part[ORIGIN])
 }
 
 // One if the part's origin is below o, and else zero.
 fn one_below(part: &[u8], o: u64) -> usize
-    requires { ⌜ length (now part) ≡ recordLong ⌝ }
-    ensures { λ r. ⌜ (r ≡ below o (now (part .entry) ∷ [])) × (r ≤ 1) ⌝ }
+    requires { length part.now ≡ record_long }
+    ensures { (result ≡ below o (part.now ∷ [])) × (result ≤ 1) }
 {
     if origin_of(part) < o { 1 } else { 0 }
 }
 
 // How many records come before those of origin o.
 fn count_below(msg: &[u8], count: usize, o: u64) -> usize
-    requires { ⌜ headLong + count * recordLong ≤ length (now msg) ⌝ }
-    ensures { λ r. ⌜ (r ≡ below o (partsOf count (now (msg .entry)))) × (r ≤ count) ⌝ }
+    requires { head_long + count * record_long ≤ length msg.now }
+    ensures { (result ≡ below o (parts_of count msg.now)) × (result ≤ count) }
 {
     let mut found = 0;
     let mut i = 0;
@@ -137,8 +131,8 @@ fn count_below(msg: &[u8], count: usize, o: u64) -> usize
 
 // The byte at which the records of origin o and above start.
 fn place(msg: &[u8], count: usize, o: u64) -> usize
-    requires { ⌜ headLong + count * recordLong ≤ length (now msg) ⌝ }
-    ensures { λ r. ⌜ (r ≡ placeFor o (partsOf count (now (msg .entry)))) × (r ≤ length (now (msg .entry))) ⌝ }
+    requires { head_long + count * record_long ≤ length msg.now }
+    ensures { (result ≡ place_for o (parts_of count msg.now)) × (result ≤ length msg.now) }
 {
     HEAD_SIZE + count_below(msg, count, o) * RECORD_SIZE
 }
@@ -146,7 +140,7 @@ fn place(msg: &[u8], count: usize, o: u64) -> usize
 // The records of one origin, as the very part of the message that holds them; with none, or of bytes that are refused,
 // the empty part at the end.
 pub fn records_of(msg: &[u8], origin: u8) -> &[u8]
-    ensures { λ r. ⌜ Finds origin (msg .entry) r ⌝ }
+    ensures { Finds origin msg.entry result }
 {
     let head = read_gossip(msg);
     let Said::Head {

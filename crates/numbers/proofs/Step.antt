@@ -1,47 +1,47 @@
 -- One turn and the end of each loop over bytes, on the lists and numbers. Assumes nothing.
-use Prim.Native.Nat.{ℕ, zero, suc, _+_, _-_, _*_, _/_, _%_, _^_, _≤_, _<_}
-use native.Mathlib.Nat.{pow-suc, pow-le-pow-right, le-refl}
+use Prim.Native.Nat.{ℕ, zero, suc, ◌+◌, ◌-◌, ◌*◌, ◌/◌, ◌%◌, ◌^◌, ◌≤◌, ◌<◌}
+use native.Mathlib.Nat.{pow-suc, pow-le-pow_right, le_refl}
 use native.Mathlib.Numerals.{add-one}
 use native.Mathlib.Omega.{arith}
-use mathlib.Core.Path.{_≡_, refl, sym}
+use mathlib.Core.Path.{◌≡◌, refl, sym}
 use mathlib.Core.Bool.{Bool, true, false}
-use mathlib.Core.List.{List, _++_, append-assoc}
+use mathlib.Core.List.{List, ◌++◌, append_assoc}
 use lib.Dec.{ltb, lit<}
-use lib.ListN.{length, drop, getD, set}
-use lib.Seq.{getD-set-same, drop-set-lt, drop-cons, lt-length-set}
+use lib.ListN.{length, drop, get_or, set}
+use lib.Seq.{get_or-set_same, drop-set-lt, drop-cons, lt-length-set}
 use borrow.Author.Tests.{ltb-true, ltb-false, lt-ltb, le-ltb}
-use Rattle·lists.specs.Scan.{rest}
-use Rattle·numbers·specs.specs.Number.{numberFrom, bytesOf}
+use Rattle.lists.specs.Scan.{rest}
+use Rattle.numbers.specs.Number.{number_from, bytes_of}
 
-pub number-more : (s : List ℕ) (i n : ℕ) → i < length s
-    → numberFrom n (drop i s) ≡ numberFrom (n * 256 + getD s i 0) (drop (i + 1) s)
-unfolding numberFrom
-number-more s i n h = rw (rest s i h)
+pub number_more : (s : List ℕ) (i n : ℕ) → i < length s
+    → number_from n (drop i s) ≡ number_from (n * 256 + get_or s i 0) (drop (i + 1) s)
+unfolding number_from
+number_more s i n h = rw (rest s i h)
 
-pub number-grows : (i n x : ℕ) → n < 256 ^ i → x < 256 → n * 256 + x < 256 ^ (i + 1)
-number-grows i n x h l = rw (add-one, pow-suc) (omega arith)
+pub number_grows : (i n x : ℕ) → n < 256 ^ i → x < 256 → n * 256 + x < 256 ^ (i + 1)
+number_grows i n x h l = rw (add-one, pow-suc) (omega arith)
 
-pub number-fits : (i n x : ℕ) → n < 256 ^ i → x < 256 → i < 8 → n * 256 + x < 2 ^ 64
-number-fits i n x h l k =
+pub number_fits : (i n x : ℕ) → n < 256 ^ i → x < 256 → i < 8 → n * 256 + x < 2 ^ 64
+number_fits i n x h l k =
     let e : i + 1 ≤ 8 = omega arith in
-    omega (arith, number-grows i n x h l, pow-le-pow-right {n = 256} (lit< tt) e)
+    omega (arith, number_grows i n x h l, pow-le-pow_right {n = 256} (lit< tt) e)
 
 pub put-more : (s : List ℕ) (i m : ℕ) → 0 < i → i ≤ length s
-    → bytesOf i m ++ drop i s ≡ bytesOf (i - 1) (m / 256) ++ drop (i - 1) (set s (i - 1) (m % 256))
-unfolding bytesOf
+    → bytes_of i m ++ drop i s ≡ bytes_of (i - 1) (m / 256) ++ drop (i - 1) (set s (i - 1) (m % 256))
+unfolding bytes_of
 put-more s zero m h l = absurd (omega arith)
 put-more s (suc i) m h l =
     let e : suc i - 1 ≡ i = omega arith in
     rw (
       e,
       drop-cons (set s i (m % 256)) i 0 (lt-length-set s i (m % 256) l),
-      getD-set-same s i (m % 256) 0 l,
-      drop-set-lt (suc i) s i (m % 256) (le-refl (suc i)),
-      append-assoc,
+      get_or-set_same s i (m % 256) 0 l,
+      drop-set-lt (suc i) s i (m % 256) (le_refl (suc i)),
+      append_assoc,
     )
 
-same-test : (a b c d : ℕ) → (a < b → c < d) → (b ≤ a → d ≤ c) → ltb a b ≡ ltb c d
-same-test a b c d f g = on (ltb a b) refl
+same_test : (a b c d : ℕ) → (a < b → c < d) → (b ≤ a → d ≤ c) → ltb a b ≡ ltb c d
+same_test a b c d f g = on (ltb a b) refl
   where
     on : (p : Bool) → ltb a b ≡ p → p ≡ ltb c d
     on true e = sym (lt-ltb c d (f (ltb-true a b e)))
@@ -51,10 +51,10 @@ pub width-more : (m i : ℕ) → 0 < i → ltb m (256 ^ i) ≡ ltb (m / 256) (25
 width-more m zero h = absurd (omega arith)
 width-more m (suc i) h =
     let e : suc i - 1 ≡ i = omega arith in
-    rw (e, pow-suc 256 i) (same-test m (256 ^ i * 256) (m / 256) (256 ^ i) (λ l. omega arith) (λ l. omega arith))
+    rw (e, pow-suc 256 i) (same_test m (256 ^ i * 256) (m / 256) (256 ^ i) (λ l. omega arith) (λ l. omega arith))
 
 pub width-none : (m : ℕ) → 0 < m → ltb m (256 ^ 0) ≡ false
 width-none m h = le-ltb m 1 h
 
 pub width-end : (i : ℕ) → ltb 0 (256 ^ i) ≡ true
-width-end i = lt-ltb 0 (256 ^ i) (omega (arith, pow-le-pow-right {n = 256} (lit< tt) {i = 0} {j = i} (omega arith)))
+width-end i = lt-ltb 0 (256 ^ i) (omega (arith, pow-le-pow_right {n = 256} (lit< tt) {i = 0} {j = i} (omega arith)))

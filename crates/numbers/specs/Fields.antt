@@ -1,30 +1,26 @@
 -- A row of numbers as bytes: a field is a number in so many bytes, and a list of widths says how many. Assumes nothing.
-use Prim.Native.Nat.{ℕ, _^_}
-use mathlib.Core.Bool.{Bool, true, false, _&&_}
-use mathlib.Core.List.{List, [], _∷_, _++_}
-use lib.Dec.{ltb}
-use lib.ListN.{take, drop}
-use Rattle·stamp.specs.Stamp.{total}
-use Rattle·numbers·specs.specs.Number.{numberOf, bytesOf}
+use Rattle.std.specs.Prelude.{ℕ, ◌^◌, Bool, true, false, ◌&&◌, List, [], ◌∷◌, ◌++◌, ltb, take, drop}
+use Rattle.stamp.specs.Stamp.{total}
+use Rattle.numbers.specs.Number.{number_of, bytes_of}
 
 -- the numbers that the bytes hold, one for each width
-abbrev pub readFields : List ℕ → List ℕ → List ℕ
-readFields [] bytes = []
-readFields (w ∷ ws) bytes = numberOf (take w bytes) ∷ readFields ws (drop w bytes)
+abbrev pub read_fields : List ℕ → List ℕ → List ℕ
+read_fields [] bytes = []
+read_fields (w ∷ ws) bytes = number_of (take w bytes) ∷ read_fields ws (drop w bytes)
 
 -- the bytes of the numbers, each in its width
-abbrev pub writeFields : List ℕ → List ℕ → List ℕ
-writeFields [] vs = []
-writeFields (w ∷ ws) [] = []
-writeFields (w ∷ ws) (v ∷ vs) = bytesOf w v ++ writeFields ws vs
+abbrev pub write_fields : List ℕ → List ℕ → List ℕ
+write_fields [] vs = []
+write_fields (w ∷ ws) [] = []
+write_fields (w ∷ ws) (v ∷ vs) = bytes_of w v ++ write_fields ws vs
 
 -- as many numbers as widths, each small enough for its own
-abbrev pub fieldsFit : List ℕ → List ℕ → Bool
-fieldsFit [] [] = true
-fieldsFit [] (v ∷ vs) = false
-fieldsFit (w ∷ ws) [] = false
-fieldsFit (w ∷ ws) (v ∷ vs) = ltb v (256 ^ w) && fieldsFit ws vs
+abbrev pub fields_fit : List ℕ → List ℕ → Bool
+fields_fit [] [] = true
+fields_fit [] (v ∷ vs) = false
+fields_fit (w ∷ ws) [] = false
+fields_fit (w ∷ ws) (v ∷ vs) = ltb v (256 ^ w) && fields_fit ws vs
 
 -- the numbers written at the front of the bytes, the rest of them left
-unfoldable pub putFields : List ℕ → List ℕ → List ℕ → List ℕ
-putFields ws vs out = writeFields ws vs ++ drop (total ws) out
+unfoldable pub put_fields : List ℕ → List ℕ → List ℕ → List ℕ
+put_fields ws vs out = write_fields ws vs ++ drop (total ws) out

@@ -1,19 +1,18 @@
 -- Big-endian numbers as bytes, over any width. Assumes nothing.
-use Prim.Native.Nat.{ℕ, zero, suc, _+_, _*_, _/_, _%_, _<_}
-use mathlib.Core.List.{List, [], _∷_, _++_}
+use Rattle.std.specs.Prelude.{ℕ, zero, suc, ◌+◌, ◌*◌, ◌/◌, ◌%◌, ◌<◌, List, [], ◌∷◌, ◌++◌}
 
 -- the number that the bytes hold after what acc holds already
-unfoldable pub numberFrom : ℕ → List ℕ → ℕ
-numberFrom acc [] = acc
-numberFrom acc (x ∷ l) = numberFrom (acc * 256 + x) l
+unfoldable pub number_from : ℕ → List ℕ → ℕ
+number_from acc [] = acc
+number_from acc (x ∷ l) = number_from (acc * 256 + x) l
 
-abbrev pub numberOf : List ℕ → ℕ
-numberOf l = numberFrom 0 l
+abbrev pub number_of : List ℕ → ℕ
+number_of l = number_from 0 l
 
 -- the last w bytes of n
-unfoldable pub bytesOf : ℕ → ℕ → List ℕ
-bytesOf zero n = []
-bytesOf (suc w) n = bytesOf w (n / 256) ++ (n % 256 ∷ [])
+unfoldable pub bytes_of : ℕ → ℕ → List ℕ
+bytes_of zero n = []
+bytes_of (suc w) n = bytes_of w (n / 256) ++ (n % 256 ∷ [])
 
 -- every element is a byte
 unfoldable pub Bytes : List ℕ → Type 0

@@ -1,28 +1,25 @@
 // Big-endian numbers on slices of bytes, one reader and one writer for every width; and rows of them, by a list of
 // widths.
-ghost use mathlib.Core.Path.{_≡_};
-ghost use Prim.Native.Nat.{_+_, _^_, _≤_, _<_};
-ghost use lib.Dec.{ltb, T, leb};
-ghost use lib.ListN.{length};
-ghost use Rattle·lists.specs.Part.{mid, patch};
-ghost use Rattle·numbers·specs.specs.Number.{numberOf, bytesOf};
-ghost use Rattle·lists.specs.Tests.{every};
-ghost use Rattle·stamp.specs.Stamp.{total};
-ghost use Rattle·numbers·specs.specs.Fields.{readFields, fieldsFit, putFields};
+ghost use Rattle.std.specs.Prelude.{◌≡◌, ◌+◌, ◌^◌, ◌≤◌, ◌<◌, ltb, T, leb, length};
+ghost use Rattle.lists.specs.Part.{mid, patch};
+ghost use Rattle.numbers.specs.Number.{number_of, bytes_of};
+ghost use Rattle.lists.specs.Tests.{every};
+ghost use Rattle.stamp.specs.Stamp.{total};
+ghost use Rattle.numbers.specs.Fields.{read_fields, fields_fit, put_fields};
 
 // How many values a byte has.
 const BASE: u64 = 256;
 
 pub fn wide(x: u8) -> u64
-    ensures { λ r. ⌜ r ≡ x ⌝ }
+    ensures { result ≡ x }
 {
     x as u64
 }
 
 // The number that the whole slice holds.
 fn number_of(s: &[u8]) -> u64
-    requires { ⌜ length (now s) ≤ 8 ⌝ }
-    ensures { λ r. ⌜ (r ≡ numberOf (now (s .entry))) × (r < 256 ^ length (now (s .entry))) ⌝ }
+    requires { length s.now ≤ 8 }
+    ensures { (result ≡ number_of s.now) × (result < 256 ^ length s.now) }
 {
     let mut n: u64 = 0;
     let mut i = 0;
@@ -35,8 +32,8 @@ fn number_of(s: &[u8]) -> u64
 
 // The number of w bytes at a place.
 pub fn number_at(s: &[u8], at: usize, w: usize) -> u64
-    requires { ⌜ (at + w ≤ length (now s)) × (w ≤ 8) ⌝ }
-    ensures { λ r. ⌜ (r ≡ numberOf (mid at w (now (s .entry)))) × (r < 256 ^ w) ⌝ }
+    requires { (at + w ≤ length s.now) × (w ≤ 8) }
+    ensures { (result ≡ number_of (mid at w s.now)) × (result < 256 ^ w) }
 {
     let e = at + w;
     number_of(&s[at..e])
@@ -44,7 +41,7 @@ pub fn number_at(s: &[u8], at: usize, w: usize) -> u64
 
 // The last bytes of n over the whole slice.
 fn put_number(s: &mut [u8], n: u64)
-    ensures { λ _. ⌜ now (s .exit) ≡ bytesOf (length (now (s .entry))) n ⌝ }
+    ensures { s.new ≡ bytes_of (length s.old) n }
 {
     let mut m = n;
     let mut i = s.len();
@@ -57,8 +54,8 @@ fn put_number(s: &mut [u8], n: u64)
 
 // The last w bytes of n at a place; what stands before and after stays.
 pub fn put_number_at(s: &mut [u8], at: usize, w: usize, n: u64)
-    requires { ⌜ at + w ≤ length (now s) ⌝ }
-    ensures { λ _. ⌜ now (s .exit) ≡ patch at w (now (s .entry)) (bytesOf w n) ⌝ }
+    requires { at + w ≤ length s.old }
+    ensures { s.new ≡ patch at w s.old (bytes_of w n) }
 {
     let e = at + w;
     put_number(&mut s[at..e], n);
@@ -66,7 +63,7 @@ pub fn put_number_at(s: &mut [u8], at: usize, w: usize, n: u64)
 
 // Whether w bytes hold n: so many divisions leave nothing.
 pub fn fits_width(n: u64, w: usize) -> bool
-    ensures { λ r. ⌜ r ≡ ltb n (256 ^ w) ⌝ }
+    ensures { result ≡ ltb n (256 ^ w) }
 {
     let mut m = n;
     let mut i = w;
@@ -82,10 +79,10 @@ pub fn fits_width(n: u64, w: usize) -> bool
 
 // The numbers that the bytes hold, over the whole of v.
 pub fn read_fields(v: &mut [u64], ws: &[usize], bytes: &[u8])
-    requires { ⌜ length (now v) ≡ length (now ws) ⌝ }
-    requires { ⌜ total (now ws) ≤ length (now bytes) ⌝ }
-    requires { ⌜ T (every (λ w. leb w 8) (now ws)) ⌝ }
-    ensures { λ _. ⌜ now (v .exit) ≡ readFields (now (ws .entry)) (now (bytes .entry)) ⌝ }
+    requires v_len { length v.old ≡ length ws.now }
+    requires ws_in_bounds { total ws.now ≤ length bytes.now }
+    requires t { T (every (λ w. leb w 8) ws.now) }
+    ensures { v.new ≡ read_fields ws.now bytes.now }
 {
     let mut i = 0;
     let mut at = 0;
@@ -99,9 +96,9 @@ pub fn read_fields(v: &mut [u64], ws: &[usize], bytes: &[u8])
 
 // The numbers of v at the front of out; what stands past them stays.
 pub fn put_fields(out: &mut [u8], ws: &[usize], v: &[u64])
-    requires { ⌜ length (now v) ≡ length (now ws) ⌝ }
-    requires { ⌜ total (now ws) ≤ length (now out) ⌝ }
-    ensures { λ _. ⌜ now (out .exit) ≡ putFields (now (ws .entry)) (now (v .entry)) (now (out .entry)) ⌝ }
+    requires v_len { length v.now ≡ length ws.now }
+    requires ws_in_bounds { total ws.now ≤ length out.old }
+    ensures { out.new ≡ put_fields ws.now v.now out.old }
 {
     let mut i = 0;
     let mut at = 0;
@@ -115,7 +112,7 @@ pub fn put_fields(out: &mut [u8], ws: &[usize], v: &[u64])
 
 // Whether there is a number for each width, and each fits.
 pub fn fields_fit(ws: &[usize], v: &[u64]) -> bool
-    ensures { λ r. ⌜ r ≡ fieldsFit (now (ws .entry)) (now (v .entry)) ⌝ }
+    ensures { result ≡ fields_fit ws.now v.now }
 {
     if ws.len() != v.len() {
         return false;

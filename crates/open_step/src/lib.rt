@@ -1,16 +1,14 @@
 // Open: the fresh book of screen i of N on a lent slice.
+ghost use Rattle.std.specs.Prelude.{◌≡◌, length, replicate};
+ghost use Rattle.promise.specs.Lent.{open_on};
+ghost use Rattle.open_step.specs.Opening.{Opens};
+
 use ledger::in_range;
-use lent::BOOK;
-use lent::SCREEN;
-use lent::SCREENS;
-use promise::UNSOUND;
-use promise::WRONG_HOUSE;
-ghost use mathlib.Core.Path.{_≡_};
-ghost use lib.ListN.{length, replicate};
-ghost use Rattle·promise.specs.Lent.{openOn};
-ghost use Rattle·open_step·specs.specs.Opening.{Opens};
+use lent::{BOOK, SCREEN, SCREENS};
+use promise::{UNSOUND, WRONG_HOUSE};
 
 // Whether the book is open, or the refusal's number.
+#[derive(Drop)]
 pub enum Opening {
     Opened,
     Refused(u64),
@@ -18,7 +16,7 @@ pub enum Opening {
 
 // Every word zero.
 fn clear(b: &mut [u64])
-    ensures { λ _. ⌜ now (b .exit) ≡ replicate (length (now (b .entry))) 0 ⌝ }
+    ensures { b.new ≡ replicate (length b.old) 0 }
 {
     let mut k = 0;
     while k < b.len() {
@@ -29,7 +27,7 @@ fn clear(b: &mut [u64])
 
 // The fresh book of screen i of n.
 pub fn open_book(b: &mut [u64], i: u64, n: u64) -> Opening
-    ensures { λ r. ⌜ Opens (openOn (now (b .entry)) i n) r (now (b .exit)) ⌝ }
+    ensures { Opens (open_on b.old i n) result b.new }
 {
     if b.len() != BOOK {
         return Opening::Refused(UNSOUND);

@@ -2,73 +2,67 @@
 -- nothing.
 --     never-reads   nothing more is asked for
 --     say-turn      what is said is compared, and then what is said to what is left
---     last-turn, stop-turn   the last turn says all that is still to be said
-use Prim.Native.Nat.{ℕ, _+_, _-_}
-use native.Mathlib.Omega.{arith}
-use mathlib.Core.Path.{_≡_, sym, ap, ap₂, subst, _∙_}
-use mathlib.Core.Bool.{Bool, true}
-use mathlib.Core.List.{List, [], _++_, append-nil}
-use lib.Dec.{T}
-use lib.ListN.{length, take, drop}
-use lib.Seq.{take-at, drop-drop}
-use Rattle·program.specs.Said.{saidIn}
-use Rattle·program.specs.Turn.{Turned, turnOn, Turns}
-use Rattle·program.specs.TurnLaws.{turn-told}
-use Rattle·program.specs.declared.Turn.{Turn}
-use Rattle·program.specs.declared.Turn.the-variants.{Read, Say, Last, Stop}
-use Rattle·vectors.specs.Compare.{comparedAt}
-use Rattle·vectors.specs.CompareLaws.{to-end, thenAt, compared-none, compared-append}
-use Rattle·vectors.specs.declared.compare.Outcome.{Outcome}
-use Rattle·vectors.specs.declared.compare.Outcome.the-variants.{Same}
+--     last_turn_lem, stop-turn   the last turn says all that is still to be said
+use Rattle.std.specs.Prelude.{ℕ, ◌+◌, ◌-◌, ◌≡◌, Bool, true, List, [], ◌++◌, T, length, take, drop}
+use Rattle.std.proofs.Common.{arith, sym, ap, ap₂, subst, ◌∙◌, append-nil, take_at, drop-drop}
+use Rattle.program.specs.Said.{said_in}
+use Rattle.program.specs.Turn.{Turned, turn_on, Turns}
+use Rattle.program.specs.TurnLaws.{turn-told}
+use Rattle.program.specs.declared.Turn.{Turn}
+use Rattle.program.specs.declared.Turn.TheVariants.{Read, Say, Last, Stop}
+use Rattle.vectors.specs.Compare.{compared_at}
+use Rattle.vectors.specs.CompareLaws.{to_end, then_at, compared-none, compared_append}
+use Rattle.vectors.specs.declared.compare.Outcome.{Outcome}
+use Rattle.vectors.specs.declared.compare.Outcome.TheVariants.{Same}
 
 -- one turn: what is left of the input is lent from `at` on, and what is said so far ends at `place`
 module _ (words input out expected : List ℕ) (at place : ℕ) (opened : Bool) (t : Turn) (after bytes : List ℕ)
-    (p : Turns (turnOn words (take (length input - at) (drop at input)) true opened) t after out bytes) where
+    (p : Turns (turn_on words (take (length input - at) (drop at input)) true opened) t after out bytes) where
   abbrev lent : List ℕ
   lent = take (length input - at) (drop at input)
 
   abbrev turned : Turned
-  turned = turnOn words lent true opened
+  turned = turn_on words lent true opened
 
   -- what is lent is all that is left
   lent-all : lent ++ [] ≡ drop at input
-  lent-all = append-nil lent ∙ to-end at input
+  lent-all = append-nil lent ∙ to_end at input
 
   -- what is said stands at the output's front
-  front : (k : ℕ) → k ≡ length (turned .says) → turned .says ≡ take (k - 0) bytes
+  front : (k : ℕ) → k ≡ length turned.says → turned.says ≡ take (k - 0) bytes
   front k e =
       let z : k - 0 ≡ k = omega arith in
-      sym (ap₂ take z (p .writes) ∙ take-at (turned .says) (drop (length (turned .says)) out) k (sym e))
+      sym (ap₂ take z p.writes ∙ take_at turned.says (drop (length turned.says) out) k (sym e))
 
   pub never-reads : (n : ℕ) → t ≡ Read n → ⊥
-  never-reads n e = subst T (turn-told words lent true opened t after out bytes p (Read n) e .0) tt
+  never-reads n e = subst T (turn-told words lent true opened t after out bytes p (Read n) e).0 tt
 
   pub say-turn :
-      (used said : ℕ) → t ≡ Say used said → (o : Outcome) → o ≡ comparedAt place (take (said - 0) bytes) expected
-      → comparedAt place (saidIn opened words (drop at input)) expected
-      ≡ thenAt o (saidIn true after (drop (at + used) input)) expected
+      (used said : ℕ) → t ≡ Say used said → (o : Outcome) → o ≡ compared_at place (take (said - 0) bytes) expected
+      → compared_at place (said_in opened words (drop at input)) expected
+      ≡ then_at o (said_in true after (drop (at + used) input)) expected
   say-turn used said e o q =
       let m = turn-told words lent true opened t after out bytes p (Say used said) e in
-      let rest = saidIn true (turned .words) (drop used lent ++ []) in
+      let rest = said_in true turned.words (drop used lent ++ []) in
       let behind : drop used lent ++ [] ≡ drop (at + used) input =
-      append-nil (drop used lent) ∙ ap (drop used) (to-end at input) ∙ drop-drop used at input in
-      ap (λ (l : List ℕ). comparedAt place (saidIn opened words l) expected) (sym lent-all)
-      ∙ ap (λ (l : List ℕ). comparedAt place l expected) (m .0)
-      ∙ compared-append place (turned .says) rest expected
-      ∙ ap₂ (λ (x : Outcome) (l : List ℕ). thenAt x l expected)
-      (ap (λ (l : List ℕ). comparedAt place l expected) (front said (m .3)) ∙ sym q)
-      (ap₂ (λ (ws l : List ℕ). saidIn true ws l) (sym (p .leaves)) behind)
+      append-nil (drop used lent) ∙ ap (drop used) (to_end at input) ∙ drop-drop used at input in
+      ap (λ (l : List ℕ). compared_at place (said_in opened words l) expected) (sym lent-all)
+      ∙ ap (λ (l : List ℕ). compared_at place l expected) m.0
+      ∙ compared_append place turned.says rest expected
+      ∙ ap₂ (λ (x : Outcome) (l : List ℕ). then_at x l expected)
+      (ap (λ (l : List ℕ). compared_at place l expected) (front said m.3) ∙ sym q)
+      (ap₂ (λ (ws l : List ℕ). said_in true ws l) (sym p.leaves) behind)
 
-  pub last-turn : (said : ℕ) → t ≡ Last said
-      → comparedAt place (saidIn opened words (drop at input)) expected
-      ≡ comparedAt place (take (said - 0) bytes) expected
-  last-turn said e =
+  pub last_turn_lem : (said : ℕ) → t ≡ Last said
+      → compared_at place (said_in opened words (drop at input)) expected
+      ≡ compared_at place (take (said - 0) bytes) expected
+  last_turn_lem said e =
       let m = turn-told words lent true opened t after out bytes p (Last said) e in
-      ap (λ (l : List ℕ). comparedAt place (saidIn opened words l) expected) (sym lent-all)
-      ∙ ap (λ (l : List ℕ). comparedAt place l expected) (m .0 ∙ front said (m .1))
+      ap (λ (l : List ℕ). compared_at place (said_in opened words l) expected) (sym lent-all)
+      ∙ ap (λ (l : List ℕ). compared_at place l expected) (m.0 ∙ front said m.1)
 
-  pub stop-turn : t ≡ Stop → comparedAt place (saidIn opened words (drop at input)) expected ≡ Same place
+  pub stop-turn : t ≡ Stop → compared_at place (said_in opened words (drop at input)) expected ≡ Same place
   stop-turn e =
-      ap (λ (l : List ℕ). comparedAt place (saidIn opened words l) expected) (sym lent-all)
-      ∙ ap (λ (l : List ℕ). comparedAt place l expected) (turn-told words lent true opened t after out bytes p Stop e)
+      ap (λ (l : List ℕ). compared_at place (said_in opened words l) expected) (sym lent-all)
+      ∙ ap (λ (l : List ℕ). compared_at place l expected) (turn-told words lent true opened t after out bytes p Stop e)
       ∙ compared-none place expected

@@ -2,16 +2,13 @@
 // is expected.
 mod play;
 
+ghost use Rattle.std.specs.Prelude.{◌≡◌, length};
+ghost use Rattle.vectors.specs.File.{Inside, file_room};
+
 use libc::STDOUT_FILENO;
 use play::play;
 use vectors::compare::Outcome;
-use vectors::file::FILE_ROOM;
-use vectors::file::NextVector;
-use vectors::file::Part;
-use vectors::file::entry_at;
-ghost use mathlib.Core.Path.{_≡_};
-ghost use lib.ListN.{length};
-ghost use Rattle·vectors.specs.File.{Inside, fileRoom};
+use vectors::file::{FILE_ROOM, NextVector, Part, entry_at};
 
 // A vector's line; whether it agrees.
 fn print_line(name: &[u8], outcome: Outcome) -> bool {
@@ -43,9 +40,9 @@ fn print_cut() {
 
 // Runs one vector and writes its line; whether it agrees.
 fn try_vector(file: &[u8], name: Part, input: Part, output: Part) -> bool
-    requires { ⌜ Inside name (now file) ⌝ }
-    requires { ⌜ Inside input (now file) ⌝ }
-    requires { ⌜ Inside output (now file) ⌝ }
+    requires inside { Inside name file.now }
+    requires inside_2 { Inside input file.now }
+    requires inside_3 { Inside output file.now }
 {
     let input_start = input.start;
     let input_end = input.end;
@@ -94,7 +91,7 @@ fn try_all(file: &[u8]) {
 
 // Its contract gives only the length, so that no proof looks at each of the zeros.
 fn room() -> [u8; FILE_ROOM]
-    ensures { λ r. ⌜ fileRoom ≡ length r ⌝ }
+    ensures { file_room ≡ length result }
 {
     [0; FILE_ROOM]
 }

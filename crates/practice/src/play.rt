@@ -1,23 +1,19 @@
 // Document 01's small program in memory: the input is read at once, and what each turn says is compared as it comes.
+ghost use Rattle.std.specs.Prelude.{◌≡◌, ◌≤◌, length, replicate};
+ghost use Rattle.wire.specs.Kinds.{longest};
+ghost use Rattle.lent.specs.Words.{book_long};
+ghost use Rattle.program.specs.Said.{said_by};
+ghost use Rattle.vectors.specs.Compare.{compared_at, outcome_of};
+
 use lent::BOOK;
-use program::Turn;
-use program::next_turn;
-use vectors::compare::Outcome;
-use vectors::compare::compare_at;
-use vectors::compare::end_at;
+use program::{Turn, next_turn};
+use vectors::compare::{Outcome, compare_at, end_at};
 use wire::LONGEST;
-ghost use mathlib.Core.Path.{_≡_};
-ghost use Prim.Native.Nat.{_≤_};
-ghost use lib.ListN.{length, replicate};
-ghost use Rattle·wire.specs.Kinds.{longest};
-ghost use Rattle·lent.specs.Words.{bookLong};
-ghost use Rattle·program.specs.Said.{saidBy};
-ghost use Rattle·vectors.specs.Compare.{comparedAt, outcomeOf};
 
 // All that the program says to an input, compared piece by piece from the front on.
 fn follow(book: &mut [u64], input: &[u8], out: &mut [u8], expected: &[u8]) -> Outcome
-    requires { ⌜ longest ≤ length (now out) ⌝ }
-    ensures { λ r. ⌜ r ≡ comparedAt 0 (saidBy (now (book .entry)) (now (input .entry))) (now (expected .entry)) ⌝ }
+    requires { longest ≤ length out.old }
+    ensures { result ≡ compared_at 0 (said_by book.old input.now) expected.now }
 {
     let mut at = 0;
     let mut place = 0;
@@ -44,7 +40,7 @@ fn follow(book: &mut [u64], input: &[u8], out: &mut [u8], expected: &[u8]) -> Ou
 
 // The program on a fresh book: whether it writes exactly what is expected.
 pub fn play(input: &[u8], expected: &[u8]) -> Outcome
-    ensures { λ r. ⌜ r ≡ outcomeOf (saidBy (replicate bookLong 0) (now (input .entry))) (now (expected .entry)) ⌝ }
+    ensures { result ≡ outcome_of (said_by (replicate book_long 0) input.now) expected.now }
 {
     let mut book = [0u64; BOOK];
     let mut out = [0u8; LONGEST];

@@ -1,28 +1,21 @@
 // The decisions of document 01's small program: what it does next, given the book, what is read so far, and whether the
 // input has ended.
-use answer::answer;
-use answer::open_from;
-use answer::speak;
-use frames::Frame;
-use frames::next_in;
+ghost use Rattle.std.specs.Prelude.{◌≡◌, false, ◌&&◌, ◌++◌, ◌≤◌, T, eqb, length, drop};
+ghost use Rattle.wire.specs.Kinds.{longest};
+ghost use Rattle.meaning.specs.Reply.{refusal};
+ghost use Rattle.answer.specs.Speech.{bytes_for, sayable};
+ghost use Rattle.program.specs.Turn.{more_turn, message_turn, turn_on, Turns};
+ghost use Rattle.program.specs.declared.Turn.TheVariants.{Last};
+
+use answer::{answer, open_from, speak};
+use frames::{Frame, next_in};
 use open_step::Opening;
 use promise::Reply;
-use wire::BAD;
-use wire::Written;
-ghost use mathlib.Core.Path.{_≡_};
-ghost use mathlib.Core.Bool.{false, _&&_};
-ghost use mathlib.Core.List.{_++_};
-ghost use Prim.Native.Nat.{_≤_};
-ghost use lib.Dec.{T, eqb};
-ghost use lib.ListN.{length, drop};
-ghost use Rattle·wire.specs.Kinds.{longest};
-ghost use Rattle·meaning.specs.Reply.{refusal};
-ghost use Rattle·answer.specs.Speech.{bytesFor, sayable};
-ghost use Rattle·program·specs.specs.Turn.{moreTurn, messageTurn, turnOn, Turns};
-ghost use Rattle·program·specs.specs.declared.Turn.the-variants.{Last};
+use wire::{BAD, Written};
 
 // Read until so many bytes are there in all, or the input ends; so many bytes of what is read are used up, and so many
 // at the output's front are said; so many are said, and the program stops; it stops without a word.
+#[derive(Drop)]
 pub enum Turn {
     Read(usize),
     Say { used: usize, said: usize },
@@ -32,11 +25,11 @@ pub enum Turn {
 
 // A refusal is said, and the program stops.
 fn last_refusal(number: u64, out: &mut [u8]) -> Turn
-    requires { ⌜ T (sayable (refusal number)) ⌝ }
-    requires { ⌜ longest ≤ length (now out) ⌝ }
-    ensures { λ r. ⌜ r ≡ Last (length (bytesFor (refusal number))) ⌝ }
-    ensures { λ _. ⌜ now (out .exit)
-        ≡ bytesFor (refusal number) ++ drop (length (bytesFor (refusal number))) (now (out .entry)) ⌝ }
+    requires t { T (sayable (refusal number)) }
+    requires longest_in_bounds { longest ≤ length out.old }
+    ensures value { result ≡ Last (length (bytes_for (refusal number))) }
+    ensures out_after { out.new
+        ≡ bytes_for (refusal number) ++ drop (length (bytes_for (refusal number))) out.old }
 {
     let wrote = speak(Reply::Refused(number), out);
     match wrote {
@@ -47,7 +40,7 @@ fn last_refusal(number: u64, out: &mut [u8]) -> Turn
 
 // Whether the book is open and nothing of a next message is read.
 fn is_between(read: &[u8], opened: bool) -> bool
-    ensures { λ r. ⌜ r ≡ (opened && eqb (length (now (read .entry))) 0) ⌝ }
+    ensures { result ≡ (opened && eqb (length read.now) 0) }
 {
     if !opened {
         return false;
@@ -57,9 +50,9 @@ fn is_between(read: &[u8], opened: bool) -> bool
 
 // What is read is no whole message yet, which needs n bytes.
 fn more_turn(book: &[u64], read: &[u8], ended: bool, opened: bool, n: usize, out: &mut [u8]) -> Turn
-    requires { ⌜ longest ≤ length (now out) ⌝ }
-    ensures { λ r. ⌜ Turns (moreTurn (now (book .entry)) (now (read .entry)) ended opened n) r (now (book .entry))
-        (now (out .entry)) (now (out .exit)) ⌝ }
+    requires { longest ≤ length out.old }
+    ensures { Turns (more_turn book.now read.now ended opened n) result book.now
+        out.old out.new }
 {
     if !ended {
         return Turn::Read(n);
@@ -72,9 +65,9 @@ fn more_turn(book: &[u64], read: &[u8], ended: bool, opened: bool, n: usize, out
 
 // The first message opens the book.
 fn open_turn(book: &mut [u64], msg: &[u8], out: &mut [u8]) -> Turn
-    requires { ⌜ longest ≤ length (now out) ⌝ }
-    ensures { λ r. ⌜ Turns (messageTurn (now (book .entry)) (now (msg .entry)) false) r (now (book .exit))
-        (now (out .entry)) (now (out .exit)) ⌝ }
+    requires { longest ≤ length out.old }
+    ensures { Turns (message_turn book.old msg.now false) result book.new
+        out.old out.new }
 {
     let opening = open_from(book, msg);
     match opening {
@@ -88,9 +81,9 @@ fn open_turn(book: &mut [u64], msg: &[u8], out: &mut [u8]) -> Turn
 
 // A whole message: kind 11 first, then requests, each with its reply.
 fn message_turn(book: &mut [u64], msg: &[u8], opened: bool, out: &mut [u8]) -> Turn
-    requires { ⌜ longest ≤ length (now out) ⌝ }
-    ensures { λ r. ⌜ Turns (messageTurn (now (book .entry)) (now (msg .entry)) opened) r (now (book .exit))
-        (now (out .entry)) (now (out .exit)) ⌝ }
+    requires { longest ≤ length out.old }
+    ensures { Turns (message_turn book.old msg.now opened) result book.new
+        out.old out.new }
 {
     if !opened {
         return open_turn(book, msg, out);
@@ -104,9 +97,9 @@ fn message_turn(book: &mut [u64], msg: &[u8], opened: bool, out: &mut [u8]) -> T
 
 // What the program does next: `read` is what is read and not yet used, `out` has room for the longest message.
 pub fn next_turn(book: &mut [u64], read: &[u8], ended: bool, opened: bool, out: &mut [u8]) -> Turn
-    requires { ⌜ longest ≤ length (now out) ⌝ }
-    ensures { λ r. ⌜ Turns (turnOn (now (book .entry)) (now (read .entry)) ended opened) r (now (book .exit))
-        (now (out .entry)) (now (out .exit)) ⌝ }
+    requires { longest ≤ length out.old }
+    ensures { Turns (turn_on book.old read.now ended opened) result book.new
+        out.old out.new }
 {
     let frame = next_in(read, opened);
     match frame {

@@ -1,18 +1,14 @@
 // The prompts in their region of a book: for each the showing, accepts and declines.
+ghost use Rattle.std.specs.Prelude.{◌≡◌, [], ◌+◌, ◌*◌, ◌≤◌, ◌<◌, length, get_or, set};
+ghost use Rattle.lists.specs.Order.{same_key};
+ghost use Rattle.limits.specs.Limits.{prompt_count, count_limit};
+ghost use Rattle.tally.specs.Standing.{CountsFit, blank, afresh, same_counts};
+ghost use Rattle.tally.specs.Tap.{tap_of};
+ghost use Rattle.taps.specs.Region.{taps_at};
+ghost use Rattle.prompts.specs.Region.{standing_long, prompt_words, standings_at, standing_words, noted_at};
+
 use limits::PROMPT_COUNT;
-use tally::Standing;
-use tally::noted;
-use tally::unpack;
-ghost use mathlib.Core.Path.{_≡_};
-ghost use mathlib.Core.List.{[]};
-ghost use Prim.Native.Nat.{_+_, _*_, _≤_, _<_};
-ghost use lib.ListN.{length, getD, set};
-ghost use Rattle·lists.specs.Order.{sameKey};
-ghost use Rattle·limits.specs.Limits.{promptCount, countLimit};
-ghost use Rattle·tally.specs.Standing.{CountsFit, blank, afresh, sameCounts};
-ghost use Rattle·tally.specs.Tap.{tapOf};
-ghost use Rattle·taps.specs.Region.{tapsAt};
-ghost use Rattle·prompts·specs.specs.Region.{standingLong, promptWords, standingsAt, standingWords, notedAt};
+use tally::{Standing, noted, unpack};
 
 // How many words a standing takes, and all of them.
 const STANDING_LONG: usize = 3;
@@ -21,16 +17,16 @@ pub const PROMPT_WORDS: usize = PROMPT_COUNT as usize * STANDING_LONG;
 
 // Where a prompt's standing begins.
 fn place_of(p: u64) -> usize
-    requires { ⌜ p < promptCount ⌝ }
-    ensures { λ r. ⌜ (r ≡ p * standingLong) × (r + standingLong ≤ promptWords) ⌝ }
+    requires { p < prompt_count }
+    ensures { (result ≡ p * standing_long) × (result + standing_long ≤ prompt_words) }
 {
     p as usize * STANDING_LONG
 }
 
 pub fn standing_at(r: &[u64], p: u64) -> Standing
-    requires { ⌜ length (now r) ≡ promptWords ⌝ }
-    requires { ⌜ p < promptCount ⌝ }
-    ensures { λ s. ⌜ s ≡ getD (standingsAt (now (r .entry))) p blank ⌝ }
+    requires r_len { length r.now ≡ prompt_words }
+    requires p_lt_prompt_count { p < prompt_count }
+    ensures { result ≡ get_or (standings_at r.now) p blank }
 {
     let at = place_of(p);
     Standing {
@@ -41,9 +37,9 @@ pub fn standing_at(r: &[u64], p: u64) -> Standing
 }
 
 fn put_standing(r: &mut [u64], p: u64, s: Standing)
-    requires { ⌜ length (now r) ≡ promptWords ⌝ }
-    requires { ⌜ p < promptCount ⌝ }
-    ensures { λ _. ⌜ now (r .exit) ≡ standingWords (set (standingsAt (now (r .entry))) p s) ⌝ }
+    requires r_len { length r.old ≡ prompt_words }
+    requires p_lt_prompt_count { p < prompt_count }
+    ensures { r.new ≡ standing_words (set (standings_at r.old) p s) }
 {
     let at = place_of(p);
     r[at] = s.showing;
@@ -53,10 +49,10 @@ fn put_standing(r: &mut [u64], p: u64, s: Standing)
 
 // Notes one more tap at its prompt.
 pub fn note(r: &mut [u64], w: u64)
-    requires { ⌜ length (now r) ≡ promptWords ⌝ }
-    requires { ⌜ CountsFit (getD (standingsAt (now r)) (tapOf w .prompt) blank) ⌝ }
-    ensures { λ _. ⌜ now (r .exit) ≡ standingWords (notedAt (tapOf w) (standingsAt (now (r .entry)))) ⌝ }
-    ensures { λ _. ⌜ length (now (r .exit)) ≡ promptWords ⌝ }
+    requires r_len { length r.old ≡ prompt_words }
+    requires counts_fit { CountsFit (get_or (standings_at r.old) (tap_of w).prompt blank) }
+    ensures r_after { r.new ≡ standing_words (noted_at (tap_of w) (standings_at r.old)) }
+    ensures r_len_2 { length r.new ≡ prompt_words }
 {
     let t = unpack(w);
     let s = standing_at(r, t.prompt);
@@ -66,11 +62,11 @@ pub fn note(r: &mut [u64], w: u64)
 // Notes the first n taps in a table that holds none: from the last to the first, so that those noted are always the
 // rest.
 fn tabulate(table: &mut [u64], taps: &[u64], n: usize)
-    requires { ⌜ length (now table) ≡ promptWords ⌝ }
-    requires { ⌜ standingsAt (now table) ≡ afresh [] ⌝ }
-    requires { ⌜ (n ≤ length (now taps)) × (n < countLimit) ⌝ }
-    ensures { λ _. ⌜ standingsAt (now (table .exit)) ≡ afresh (tapsAt n (now (taps .entry))) ⌝ }
-    ensures { λ _. ⌜ length (now (table .exit)) ≡ promptWords ⌝ }
+    requires table_len { length table.old ≡ prompt_words }
+    requires table_value { standings_at table.old ≡ afresh [] }
+    requires n_in_bounds { (n ≤ length taps.now) × (n < count_limit) }
+    ensures table_after { standings_at table.new ≡ afresh (taps_at n taps.now) }
+    ensures table_len_2 { length table.new ≡ prompt_words }
 {
     let mut i = n;
     while 0 < i {
@@ -80,8 +76,8 @@ fn tabulate(table: &mut [u64], taps: &[u64], n: usize)
 }
 
 fn same_words(a: &[u64], b: &[u64]) -> bool
-    requires { ⌜ length (now a) ≡ length (now b) ⌝ }
-    ensures { λ r. ⌜ r ≡ sameKey (now (a .entry)) (now (b .entry)) ⌝ }
+    requires { length a.now ≡ length b.now }
+    ensures { result ≡ same_key a.now b.now }
 {
     let mut i = 0;
     while i < a.len() {
@@ -95,9 +91,9 @@ fn same_words(a: &[u64], b: &[u64]) -> bool
 
 // Whether the standings are those of the first n taps, counted afresh.
 pub fn counts_follow(r: &[u64], taps: &[u64], n: usize) -> bool
-    requires { ⌜ length (now r) ≡ promptWords ⌝ }
-    requires { ⌜ (n ≤ length (now taps)) × (n < countLimit) ⌝ }
-    ensures { λ b. ⌜ b ≡ sameCounts (standingsAt (now (r .entry))) (afresh (tapsAt n (now (taps .entry)))) ⌝ }
+    requires r_len { length r.now ≡ prompt_words }
+    requires n_in_bounds { (n ≤ length taps.now) × (n < count_limit) }
+    ensures { result ≡ same_counts (standings_at r.now) (afresh (taps_at n taps.now)) }
 {
     let mut table = [0u64; PROMPT_WORDS];
     tabulate(&mut table, taps, n);

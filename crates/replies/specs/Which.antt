@@ -1,28 +1,26 @@
 -- Which of the six replies some bytes are. Assumes nothing.
-use Prim.Native.Nat.{ℕ}
-use mathlib.Core.Bool.{Bool, true, false, cond}
-use mathlib.Core.List.{List, [], _∷_}
-use Rattle·wire.specs.declared.Said.{Said}
-use Rattle·wire.specs.Kinds.{Kind, takenKind, alreadyKind, verdictKind, waitKind, refusalKind, gossipTakenKind}
-use Rattle·wire.specs.Read.{readable}
-use Rattle·wire.specs.Said.{figures}
+use Rattle.std.specs.Prelude.{ℕ, Bool, true, false, cond, List, [], ◌∷◌}
+use Rattle.wire.specs.declared.Said.{Said}
+use Rattle.wire.specs.Kinds.{Kind, taken_kind, already_kind, verdict_kind, wait_kind, refusal_kind, gossip_taken_kind}
+use Rattle.wire.specs.Read.{readable}
+use Rattle.wire.specs.Said.{figures}
 
-abbrev pub replyKinds : List Kind
-replyKinds = takenKind ∷ alreadyKind ∷ verdictKind ∷ waitKind ∷ refusalKind ∷ gossipTakenKind ∷ []
+abbrev pub reply_kinds : List Kind
+reply_kinds = taken_kind ∷ already_kind ∷ verdict_kind ∷ wait_kind ∷ refusal_kind ∷ gossip_taken_kind ∷ []
 
 -- the number of the kind, among some, of which the bytes are a message; 0 where they are of none
-unfoldable pub kindAmong : List Kind → List ℕ → ℕ
-kindAmong [] bytes = 0
-kindAmong (k ∷ ks) bytes = cond (readable k bytes) (k .number) (kindAmong ks bytes)
+unfoldable pub kind_among : List Kind → List ℕ → ℕ
+kind_among [] bytes = 0
+kind_among (k ∷ ks) bytes = cond (readable k bytes) k.number (kind_among ks bytes)
 
 -- 5 to 10 for a reply that keeps its field rules, and 0 for all other bytes
-unfoldable pub replyKind : List ℕ → ℕ
-replyKind bytes = kindAmong replyKinds bytes
+unfoldable pub reply_kind : List ℕ → ℕ
+reply_kind bytes = kind_among reply_kinds bytes
 
 -- a reader's answer says a message: it has values, and bytes that are refused have none
-abbrev pub notEmpty : List ℕ → Bool
-notEmpty [] = false
-notEmpty (x ∷ xs) = true
+abbrev pub not_empty : List ℕ → Bool
+not_empty [] = false
+not_empty (x ∷ xs) = true
 
-unfoldable pub isMessage : Said → Bool
-isMessage v = notEmpty (figures v)
+unfoldable pub is_message : Said → Bool
+is_message v = not_empty (figures v)

@@ -1,41 +1,23 @@
 // Replies: the six messages that a screen answers with, each with its reader and its writer.
+ghost use Rattle.std.specs.Prelude.{◌≡◌, ◌∷◌, leb};
+ghost use Rattle.stamp.specs.Parts.{list_of};
+ghost use Rattle.wire.specs.Kinds.{stamp_body, verdict_body, in_table};
+ghost use Rattle.wire.specs.Kinds.{taken_kind, already_kind, verdict_kind, wait_kind, refusal_kind, gossip_taken_kind};
+ghost use Rattle.wire.specs.Read.{read_as};
+ghost use Rattle.wire.specs.Said.{figures};
+ghost use Rattle.wire.specs.Write.{Meets, put_line, write_as};
+ghost use Rattle.wire.specs.declared.Said.TheVariants as said;
+ghost use Rattle.replies.specs.Which.{is_message, reply_kind};
+
 use limits::PARTS;
 use numbers::read_fields;
-use stamp::Parts;
-use stamp::parts_at;
-use stamp::put_parts;
-use tally::CONTESTED;
-use tally::UNASKED;
-use wire::ALREADY;
-use wire::BAD;
-use wire::BITS_WIDTH;
-use wire::GOSSIP_TAKEN;
-use wire::GOSSIP_TAKEN_BODY;
-use wire::KIND_SIZE;
-use wire::PART_WIDTH;
-use wire::REFUSAL;
-use wire::REFUSAL_BODY;
-use wire::Said;
-use wire::TAKEN;
-use wire::TAKEN_BODY;
-use wire::VERDICT;
-use wire::VERDICT_BODY;
-use wire::WAIT;
-use wire::WAIT_BODY;
-use wire::Written;
-use wire::is_kind;
-use wire::put_line;
-ghost use mathlib.Core.Path.{_≡_};
-ghost use mathlib.Core.List.{_∷_};
-ghost use lib.Dec.{leb};
-ghost use Rattle·stamp.specs.Parts.{listOf};
-ghost use Rattle·wire.specs.Kinds.{stampBody, verdictBody, inTable};
-ghost use Rattle·wire.specs.Kinds.{takenKind, alreadyKind, verdictKind, waitKind, refusalKind, gossipTakenKind};
-ghost use Rattle·wire.specs.Read.{readAs};
-ghost use Rattle·wire.specs.Said.{figures};
-ghost use Rattle·wire.specs.Write.{Meets, putLine, writeAs};
-ghost use Rattle·wire.specs.declared.Said.the-variants as said;
-ghost use Rattle·replies·specs.specs.Which.{isMessage, replyKind};
+use stamp::{Parts, parts_at, put_parts};
+use tally::{CONTESTED, UNASKED};
+use wire::{
+    ALREADY, BAD, BITS_WIDTH, GOSSIP_TAKEN, GOSSIP_TAKEN_BODY, KIND_SIZE, PART_WIDTH, REFUSAL,
+    REFUSAL_BODY, Said, TAKEN, TAKEN_BODY, VERDICT, VERDICT_BODY, WAIT, WAIT_BODY, Written,
+    is_kind, put_line,
+};
 
 // Where the fields stand in a line: the kind first, a stamp in as many places as it has parts.
 const KIND: usize = 0;
@@ -91,7 +73,7 @@ const NO_REPLY: u8 = 0;
 
 // A line's widths, for its reader and its writer alike: a stamp's fill the line, the others are set over them.
 fn stamp_widths() -> [usize; STAMP_LINE]
-    ensures { λ r. ⌜ r ≡ 1 ∷ stampBody ⌝ }
+    ensures { result ≡ 1 ∷ stamp_body }
 {
     let mut ws = [PART_WIDTH; STAMP_LINE];
     ws[KIND] = KIND_SIZE;
@@ -99,7 +81,7 @@ fn stamp_widths() -> [usize; STAMP_LINE]
 }
 
 pub fn read_taken(msg: &[u8]) -> Said
-    ensures { λ r. ⌜ r ≡ readAs takenKind (now (msg .entry)) ⌝ }
+    ensures { result ≡ read_as taken_kind msg.now }
 {
     if !is_kind(msg, TAKEN) {
         return Said::Unreadable(BAD);
@@ -111,13 +93,13 @@ pub fn read_taken(msg: &[u8]) -> Said
 }
 
 pub fn write_taken(stamp: Parts, out: &mut [u8]) -> Written
-    ensures { λ r. ⌜ Meets (writeAs takenKind (figures (said.Taken stamp)) (now (out .entry))) r (now (out .exit)) ⌝ }
+    ensures { Meets (write_as taken_kind (figures (said.Taken stamp)) out.old) result out.new }
 {
     put_stamp(TAKEN, stamp, out)
 }
 
 pub fn read_already(msg: &[u8]) -> Said
-    ensures { λ r. ⌜ r ≡ readAs alreadyKind (now (msg .entry)) ⌝ }
+    ensures { result ≡ read_as already_kind msg.now }
 {
     if !is_kind(msg, ALREADY) {
         return Said::Unreadable(BAD);
@@ -129,15 +111,15 @@ pub fn read_already(msg: &[u8]) -> Said
 }
 
 pub fn write_already(stamp: Parts, out: &mut [u8]) -> Written
-    ensures { λ r. ⌜ Meets (writeAs alreadyKind (figures (said.Already stamp)) (now (out .entry))) r
-        (now (out .exit)) ⌝ }
+    ensures { Meets (write_as already_kind (figures (said.Already stamp)) out.old) result
+        out.new }
 {
     put_stamp(ALREADY, stamp, out)
 }
 
 // The two kinds that hold a stamp alone.
 fn put_stamp(kind: u8, s: Parts, out: &mut [u8]) -> Written
-    ensures { λ r. ⌜ Meets (putLine (1 ∷ stampBody) (kind ∷ listOf s) (now (out .entry))) r (now (out .exit)) ⌝ }
+    ensures { Meets (put_line (1 ∷ stamp_body) (kind ∷ list_of s) out.old) result out.new }
 {
     let mut line = [0u64; STAMP_LINE];
     line[KIND] = kind as u64;
@@ -147,7 +129,7 @@ fn put_stamp(kind: u8, s: Parts, out: &mut [u8]) -> Written
 }
 
 fn verdict_fits(verdict: u64) -> bool
-    ensures { λ r. ⌜ r ≡ leb verdict 3 ⌝ }
+    ensures { result ≡ leb verdict 3 }
 {
     match verdict {
         UNASKED..=CONTESTED => true,
@@ -156,7 +138,7 @@ fn verdict_fits(verdict: u64) -> bool
 }
 
 fn verdict_widths() -> [usize; VERDICT_LINE]
-    ensures { λ r. ⌜ r ≡ 1 ∷ verdictBody ⌝ }
+    ensures { result ≡ 1 ∷ verdict_body }
 {
     let mut ws = [PART_WIDTH; VERDICT_LINE];
     ws[KIND] = KIND_SIZE;
@@ -168,7 +150,7 @@ fn verdict_widths() -> [usize; VERDICT_LINE]
 }
 
 pub fn read_verdict(msg: &[u8]) -> Said
-    ensures { λ r. ⌜ r ≡ readAs verdictKind (now (msg .entry)) ⌝ }
+    ensures { result ≡ read_as verdict_kind msg.now }
 {
     if !is_kind(msg, VERDICT) {
         return Said::Unreadable(BAD);
@@ -198,8 +180,8 @@ pub fn write_verdict(
     value: Parts,
     out: &mut [u8],
 ) -> Written
-    ensures { λ r. ⌜ Meets (writeAs verdictKind (figures (said.Verdict verdict showing accepts declines value))
-        (now (out .entry))) r (now (out .exit)) ⌝ }
+    ensures { Meets (write_as verdict_kind (figures (said.Verdict verdict showing accepts declines value))
+        out.old) result out.new }
 {
     if !verdict_fits(verdict) {
         return Written::Refused(BAD);
@@ -216,7 +198,7 @@ pub fn write_verdict(
 }
 
 pub fn read_wait(msg: &[u8]) -> Said
-    ensures { λ r. ⌜ r ≡ readAs waitKind (now (msg .entry)) ⌝ }
+    ensures { result ≡ read_as wait_kind msg.now }
 {
     if !is_kind(msg, WAIT) {
         return Said::Unreadable(BAD);
@@ -227,14 +209,14 @@ pub fn read_wait(msg: &[u8]) -> Said
 }
 
 pub fn write_wait(bits: u64, out: &mut [u8]) -> Written
-    ensures { λ r. ⌜ Meets (writeAs waitKind (figures (said.Wait bits)) (now (out .entry))) r (now (out .exit)) ⌝ }
+    ensures { Meets (write_as wait_kind (figures (said.Wait bits)) out.old) result out.new }
 {
     let line = [WAIT as u64, bits];
     put_line(&WAIT_WIDTHS, WAIT_SIZE, &line, out)
 }
 
 fn in_table(number: u64) -> bool
-    ensures { λ r. ⌜ r ≡ inTable number ⌝ }
+    ensures { result ≡ in_table number }
 {
     match number {
         FIRST_REFUSAL..=BEFORE_TEN | AFTER_TEN..=LAST_REFUSAL => true,
@@ -243,7 +225,7 @@ fn in_table(number: u64) -> bool
 }
 
 pub fn read_refusal(msg: &[u8]) -> Said
-    ensures { λ r. ⌜ r ≡ readAs refusalKind (now (msg .entry)) ⌝ }
+    ensures { result ≡ read_as refusal_kind msg.now }
 {
     if !is_kind(msg, REFUSAL) {
         return Said::Unreadable(BAD);
@@ -258,8 +240,7 @@ pub fn read_refusal(msg: &[u8]) -> Said
 }
 
 pub fn write_refusal(number: u64, out: &mut [u8]) -> Written
-    ensures { λ r. ⌜ Meets (writeAs refusalKind (figures (said.Refusal number)) (now (out .entry))) r (now (out .exit))
-        ⌝ }
+    ensures { Meets (write_as refusal_kind (figures (said.Refusal number)) out.old) result out.new }
 {
     if !in_table(number) {
         return Written::Refused(BAD);
@@ -269,7 +250,7 @@ pub fn write_refusal(number: u64, out: &mut [u8]) -> Written
 }
 
 pub fn read_gossip_taken(msg: &[u8]) -> Said
-    ensures { λ r. ⌜ r ≡ readAs gossipTakenKind (now (msg .entry)) ⌝ }
+    ensures { result ≡ read_as gossip_taken_kind msg.now }
 {
     if !is_kind(msg, GOSSIP_TAKEN) {
         return Said::Unreadable(BAD);
@@ -283,8 +264,8 @@ pub fn read_gossip_taken(msg: &[u8]) -> Said
 }
 
 pub fn write_gossip_taken(new: u64, applied: u64, out: &mut [u8]) -> Written
-    ensures { λ r. ⌜ Meets (writeAs gossipTakenKind (figures (said.GossipTaken new applied)) (now (out .entry))) r
-        (now (out .exit)) ⌝ }
+    ensures { Meets (write_as gossip_taken_kind (figures (said.GossipTaken new applied)) out.old) result
+        out.new }
 {
     let line = [GOSSIP_TAKEN as u64, new, applied];
     put_line(&GOSSIP_TAKEN_WIDTHS, GOSSIP_TAKEN_SIZE, &line, out)
@@ -292,7 +273,7 @@ pub fn write_gossip_taken(new: u64, applied: u64, out: &mut [u8]) -> Written
 
 // Whether a reader's answer is a message.
 fn is_message(said: Said) -> bool
-    ensures { λ r. ⌜ r ≡ isMessage said ⌝ }
+    ensures { result ≡ is_message said }
 {
     match said {
         Said::Unreadable(_) => false,
@@ -302,7 +283,7 @@ fn is_message(said: Said) -> bool
 
 // The kind of the reply that the bytes are; 0 where they are none that keeps its field rules.
 pub fn reply_kind(msg: &[u8]) -> u8
-    ensures { λ r. ⌜ r ≡ replyKind (now (msg .entry)) ⌝ }
+    ensures { result ≡ reply_kind msg.now }
 {
     if is_message(read_taken(msg)) {
         return TAKEN;

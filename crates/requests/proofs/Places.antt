@@ -1,11 +1,11 @@
 -- Five values stored one after the other from a place on are the list with them in that place. Assumes nothing.
-use Prim.Native.Nat.{ℕ, zero, suc, _+_, _≤_}
-use mathlib.Core.Path.{_≡_, refl, ap}
-use mathlib.Core.List.{List, [], _∷_}
+use Prim.Native.Nat.{ℕ, zero, suc, ◌+◌, ◌≤◌}
+use mathlib.Core.Path.{◌≡◌, refl, ap}
+use mathlib.Core.List.{List, [], ◌∷◌}
 use native.Mathlib.Nat.{suc-add}
 use native.Mathlib.Omega.{arith}
 use lib.ListN.{length, set}
-use Rattle·lists.specs.Part.{patch}
+use Rattle.lists.specs.Part.{patch}
 
 module _ (v w x y z : ℕ) where
   pub five :

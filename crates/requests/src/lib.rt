@@ -1,53 +1,26 @@
 // Requests: what a screen is sent, each kind with its reader and its writer. A gossip message is a head and then
 // records.
-use ledger::in_range;
-use ledger::label_fits;
-use limits::LOG_ROOM;
-use limits::PARTS;
+ghost use Rattle.std.specs.Prelude.{◌≡◌, ◌∷◌, ◌+◌, ◌≤◌, leb, length};
+ghost use Rattle.lists.specs.Part.{patch};
+ghost use Rattle.limits.specs.Limits.{log_room};
+ghost use Rattle.stamp.specs.Parts.{list_of};
+ghost use Rattle.tally.specs.Tap.{fields};
+ghost use Rattle.wire.specs.Kinds.{tap_body, head_body, record_body, tap_message_body, question_body};
+ghost use Rattle.wire.specs.Kinds.{tap_at, head_kind, record_kind, tap_kind, question_kind, open_kind, send_kind};
+ghost use Rattle.wire.specs.Read.{read_as};
+ghost use Rattle.wire.specs.Said.{figures};
+ghost use Rattle.wire.specs.Write.{Meets, write_as};
+ghost use Rattle.wire.specs.declared.Said.TheVariants as said;
+
+use ledger::{in_range, label_fits};
+use limits::{LOG_ROOM, PARTS};
 use numbers::read_fields;
-use stamp::Parts;
-use stamp::list_of;
-use stamp::part_of;
-use stamp::parts_at;
-use stamp::parts_fit;
-use stamp::put_parts;
-use tally::Tap;
-use tally::fits;
-use tally::prompt_fits;
-use wire::BAD;
-use wire::HEAD;
-use wire::HEAD_SIZE;
-use wire::KIND_SIZE;
-use wire::OPEN;
-use wire::OPEN_BODY;
-use wire::PART_WIDTH;
-use wire::QUESTION;
-use wire::QUESTION_BODY;
-use wire::RECORD;
-use wire::RECORD_SIZE;
-use wire::SEND;
-use wire::SEND_BODY;
-use wire::Said;
-use wire::TAP;
-use wire::TAP_BODY;
-use wire::Written;
-use wire::is_kind;
-use wire::put_line;
-ghost use mathlib.Core.Path.{_≡_};
-ghost use mathlib.Core.List.{_∷_};
-ghost use Prim.Native.Nat.{_+_, _≤_};
-ghost use lib.Dec.{leb};
-ghost use lib.ListN.{length};
-ghost use Rattle·lists.specs.Part.{patch};
-ghost use Rattle·limits.specs.Limits.{logRoom};
-ghost use Rattle·stamp.specs.Parts.{listOf};
-ghost use Rattle·tally.specs.Tap.{fields};
-ghost use Rattle·wire.specs.Kinds.{tapBody, headBody, recordBody, tapMessageBody, questionBody};
-ghost use Rattle·wire.specs.Kinds.{tapAt, headKind, recordKind, tapKind, questionKind, openKind, sendKind};
-ghost use Rattle·wire.specs.Read.{readAs};
-ghost use Rattle·wire.specs.Said.{figures};
-ghost use Rattle·wire.specs.Write.{Meets, writeAs};
-ghost use Rattle·wire.specs.declared.Said.the-variants as said;
+use stamp::{Parts, list_of, part_of, parts_at, parts_fit, put_parts};
+use tally::{Tap, fits, prompt_fits};
+use wire::{
+    BAD, HEAD, HEAD_SIZE, KIND_SIZE, OPEN, OPEN_BODY, PART_WIDTH, QUESTION, QUESTION_BODY, RECORD,
+    RECORD_SIZE, SEND, SEND_BODY, Said, TAP, TAP_BODY, Written, is_kind, put_line,
+};
 
 // Where the fields stand in a line: the kind first, a stamp in as many places as it has parts, a tap in five.
 const KIND: usize = 0;
@@ -97,8 +70,8 @@ const SEND_SIZE: usize = KIND_SIZE + SEND_BODY;
 
 // The tap that stands in a line from a place on.
 fn tap_at(line: &[u64], at: usize) -> Tap
-    requires { ⌜ at + 5 ≤ length (now line) ⌝ }
-    ensures { λ r. ⌜ r ≡ tapAt at (now (line .entry)) ⌝ }
+    requires { at + 5 ≤ length line.now }
+    ensures { result ≡ tap_at at line.now }
 {
     Tap {
         front: line[at],
@@ -111,8 +84,8 @@ fn tap_at(line: &[u64], at: usize) -> Tap
 
 // The widths of a tap's fields, put among a line's from a place on; and the fields themselves.
 fn put_tap_widths(ws: &mut [usize], at: usize)
-    requires { ⌜ at + 5 ≤ length (now ws) ⌝ }
-    ensures { λ _. ⌜ now (ws .exit) ≡ patch at 5 (now (ws .entry)) tapBody ⌝ }
+    requires { at + 5 ≤ length ws.old }
+    ensures { ws.new ≡ patch at 5 ws.old tap_body }
 {
     ws[at] = 1;
     ws[at + 1] = 4;
@@ -122,8 +95,8 @@ fn put_tap_widths(ws: &mut [usize], at: usize)
 }
 
 fn put_tap(line: &mut [u64], at: usize, tap: Tap)
-    requires { ⌜ at + 5 ≤ length (now line) ⌝ }
-    ensures { λ _. ⌜ now (line .exit) ≡ patch at 5 (now (line .entry)) (fields tap) ⌝ }
+    requires { at + 5 ≤ length line.old }
+    ensures { line.new ≡ patch at 5 line.old (fields tap) }
 {
     line[at] = tap.front;
     line[at + 1] = tap.serial;
@@ -133,7 +106,7 @@ fn put_tap(line: &mut [u64], at: usize, tap: Tap)
 }
 
 fn count_fits(count: u64) -> bool
-    ensures { λ r. ⌜ r ≡ leb count logRoom ⌝ }
+    ensures { result ≡ leb count log_room }
 {
     match count {
         0..=LOG_ROOM => true,
@@ -143,7 +116,7 @@ fn count_fits(count: u64) -> bool
 
 // The field rules of each kind, for its reader and its writer alike.
 fn head_fits(sender: u64, screens: u64, count: u64, stamp: Parts) -> bool
-    ensures { λ r. ⌜ r ≡ headKind .rules (figures (said.Head sender screens count stamp)) ⌝ }
+    ensures { result ≡ head_kind.rules (figures (said.Head sender screens count stamp)) }
 {
     if !in_range(sender, screens) {
         return false;
@@ -156,7 +129,7 @@ fn head_fits(sender: u64, screens: u64, count: u64, stamp: Parts) -> bool
 
 // A line's widths, for its reader and its writer alike: a stamp's fill the line, the others are set over them.
 fn head_widths() -> [usize; HEAD_LINE]
-    ensures { λ r. ⌜ r ≡ 1 ∷ headBody ⌝ }
+    ensures { result ≡ 1 ∷ head_body }
 {
     let mut ws = [PART_WIDTH; HEAD_LINE];
     ws[KIND] = KIND_SIZE;
@@ -167,7 +140,7 @@ fn head_widths() -> [usize; HEAD_LINE]
 }
 
 pub fn read_head(msg: &[u8]) -> Said
-    ensures { λ r. ⌜ r ≡ readAs headKind (now (msg .entry)) ⌝ }
+    ensures { result ≡ read_as head_kind msg.now }
 {
     if !is_kind(msg, HEAD) {
         return Said::Unreadable(BAD);
@@ -191,8 +164,8 @@ pub fn read_head(msg: &[u8]) -> Said
 }
 
 pub fn write_head(sender: u64, screens: u64, count: u64, stamp: Parts, out: &mut [u8]) -> Written
-    ensures { λ r. ⌜ Meets (writeAs headKind (figures (said.Head sender screens count stamp)) (now (out .entry))) r
-        (now (out .exit)) ⌝ }
+    ensures { Meets (write_as head_kind (figures (said.Head sender screens count stamp)) out.old) result
+        out.new }
 {
     if !head_fits(sender, screens, count, stamp) {
         return Written::Refused(BAD);
@@ -208,7 +181,7 @@ pub fn write_head(sender: u64, screens: u64, count: u64, stamp: Parts, out: &mut
 }
 
 fn record_fits(origin: u64, number: u64, label: Parts, tap: Tap, n: usize, m: Parts) -> bool
-    ensures { λ r. ⌜ r ≡ recordKind n (listOf m) .rules (figures (said.Record origin number label tap)) ⌝ }
+    ensures { result ≡ (record_kind n (list_of m)).rules (figures (said.Record origin number label tap)) }
 {
     if !fits(tap) {
         return false;
@@ -221,7 +194,7 @@ fn record_fits(origin: u64, number: u64, label: Parts, tap: Tap, n: usize, m: Pa
 }
 
 fn record_widths() -> [usize; RECORD_LINE]
-    ensures { λ r. ⌜ r ≡ 1 ∷ recordBody ⌝ }
+    ensures { result ≡ 1 ∷ record_body }
 {
     let mut ws = [PART_WIDTH; RECORD_LINE];
     ws[KIND] = KIND_SIZE;
@@ -233,7 +206,7 @@ fn record_widths() -> [usize; RECORD_LINE]
 
 // A record of a message whose head has n screens and stamp m.
 pub fn read_record(part: &[u8], n: usize, m: Parts) -> Said
-    ensures { λ r. ⌜ r ≡ readAs (recordKind n (listOf m)) (now (part .entry)) ⌝ }
+    ensures { result ≡ read_as (record_kind n (list_of m)) part.now }
 {
     if !is_kind(part, RECORD) {
         return Said::Unreadable(BAD);
@@ -265,8 +238,8 @@ pub fn write_record(
     m: Parts,
     out: &mut [u8],
 ) -> Written
-    ensures { λ r. ⌜ Meets (writeAs (recordKind n (listOf m)) (figures (said.Record origin number label tap))
-        (now (out .entry))) r (now (out .exit)) ⌝ }
+    ensures { Meets (write_as (record_kind n (list_of m)) (figures (said.Record origin number label tap))
+        out.old) result out.new }
 {
     if !record_fits(origin, number, label, tap, n, m) {
         return Written::Refused(BAD);
@@ -282,7 +255,7 @@ pub fn write_record(
 }
 
 fn tap_fits(tap: Tap, label: Parts, n: usize) -> bool
-    ensures { λ r. ⌜ r ≡ tapKind n .rules (figures (said.Tap tap label)) ⌝ }
+    ensures { result ≡ (tap_kind n).rules (figures (said.Tap tap label)) }
 {
     if !fits(tap) {
         return false;
@@ -291,7 +264,7 @@ fn tap_fits(tap: Tap, label: Parts, n: usize) -> bool
 }
 
 fn tap_widths() -> [usize; TAP_LINE]
-    ensures { λ r. ⌜ r ≡ 1 ∷ tapMessageBody ⌝ }
+    ensures { result ≡ 1 ∷ tap_message_body }
 {
     let mut ws = [PART_WIDTH; TAP_LINE];
     ws[KIND] = KIND_SIZE;
@@ -301,7 +274,7 @@ fn tap_widths() -> [usize; TAP_LINE]
 
 // With no book at hand n is the number of parts, and all are free; so for a question.
 pub fn read_tap(msg: &[u8], n: usize) -> Said
-    ensures { λ r. ⌜ r ≡ readAs (tapKind n) (now (msg .entry)) ⌝ }
+    ensures { result ≡ read_as (tap_kind n) msg.now }
 {
     if !is_kind(msg, TAP) {
         return Said::Unreadable(BAD);
@@ -321,8 +294,8 @@ pub fn read_tap(msg: &[u8], n: usize) -> Said
 }
 
 pub fn write_tap(tap: Tap, label: Parts, n: usize, out: &mut [u8]) -> Written
-    ensures { λ r. ⌜ Meets (writeAs (tapKind n) (figures (said.Tap tap label)) (now (out .entry))) r
-        (now (out .exit)) ⌝ }
+    ensures { Meets (write_as (tap_kind n) (figures (said.Tap tap label)) out.old) result
+        out.new }
 {
     if !tap_fits(tap, label, n) {
         return Written::Refused(BAD);
@@ -336,7 +309,7 @@ pub fn write_tap(tap: Tap, label: Parts, n: usize, out: &mut [u8]) -> Written
 }
 
 fn question_fits(prompt: u64, label: Parts, n: usize) -> bool
-    ensures { λ r. ⌜ r ≡ questionKind n .rules (figures (said.Question prompt label)) ⌝ }
+    ensures { result ≡ (question_kind n).rules (figures (said.Question prompt label)) }
 {
     if !prompt_fits(prompt) {
         return false;
@@ -345,7 +318,7 @@ fn question_fits(prompt: u64, label: Parts, n: usize) -> bool
 }
 
 fn question_widths() -> [usize; QUESTION_LINE]
-    ensures { λ r. ⌜ r ≡ 1 ∷ questionBody ⌝ }
+    ensures { result ≡ 1 ∷ question_body }
 {
     let mut ws = [PART_WIDTH; QUESTION_LINE];
     ws[KIND] = KIND_SIZE;
@@ -354,7 +327,7 @@ fn question_widths() -> [usize; QUESTION_LINE]
 }
 
 pub fn read_question(msg: &[u8], n: usize) -> Said
-    ensures { λ r. ⌜ r ≡ readAs (questionKind n) (now (msg .entry)) ⌝ }
+    ensures { result ≡ read_as (question_kind n) msg.now }
 {
     if !is_kind(msg, QUESTION) {
         return Said::Unreadable(BAD);
@@ -374,8 +347,8 @@ pub fn read_question(msg: &[u8], n: usize) -> Said
 }
 
 pub fn write_question(prompt: u64, label: Parts, n: usize, out: &mut [u8]) -> Written
-    ensures { λ r. ⌜ Meets (writeAs (questionKind n) (figures (said.Question prompt label)) (now (out .entry))) r
-        (now (out .exit)) ⌝ }
+    ensures { Meets (write_as (question_kind n) (figures (said.Question prompt label)) out.old) result
+        out.new }
 {
     if !question_fits(prompt, label, n) {
         return Written::Refused(BAD);
@@ -390,7 +363,7 @@ pub fn write_question(prompt: u64, label: Parts, n: usize, out: &mut [u8]) -> Wr
 
 // Its fields are judged by refusal 2, not here.
 pub fn read_open(msg: &[u8]) -> Said
-    ensures { λ r. ⌜ r ≡ readAs openKind (now (msg .entry)) ⌝ }
+    ensures { result ≡ read_as open_kind msg.now }
 {
     if !is_kind(msg, OPEN) {
         return Said::Unreadable(BAD);
@@ -404,15 +377,15 @@ pub fn read_open(msg: &[u8]) -> Said
 }
 
 pub fn write_open(screen: u64, screens: u64, out: &mut [u8]) -> Written
-    ensures { λ r. ⌜ Meets (writeAs openKind (figures (said.Open screen screens)) (now (out .entry))) r
-        (now (out .exit)) ⌝ }
+    ensures { Meets (write_as open_kind (figures (said.Open screen screens)) out.old) result
+        out.new }
 {
     let line = [OPEN as u64, screen, screens];
     put_line(&OPEN_WIDTHS, OPEN_SIZE, &line, out)
 }
 
 pub fn read_send(msg: &[u8]) -> Said
-    ensures { λ r. ⌜ r ≡ readAs sendKind (now (msg .entry)) ⌝ }
+    ensures { result ≡ read_as send_kind msg.now }
 {
     if !is_kind(msg, SEND) {
         return Said::Unreadable(BAD);
@@ -421,7 +394,7 @@ pub fn read_send(msg: &[u8]) -> Said
 }
 
 pub fn write_send(out: &mut [u8]) -> Written
-    ensures { λ r. ⌜ Meets (writeAs sendKind (figures said.Send) (now (out .entry))) r (now (out .exit)) ⌝ }
+    ensures { Meets (write_as send_kind (figures said.Send) out.old) result out.new }
 {
     let line = [SEND as u64];
     put_line(&SEND_WIDTHS, SEND_SIZE, &line, out)

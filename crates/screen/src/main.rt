@@ -1,24 +1,22 @@
 // A screen as a program: a loop that reads standard input, asks what to do next, and writes. Every decision is the
 // library's.
+ghost use Rattle.std.specs.Prelude.{◌-◌, ◌≤◌, length};
+
 use lent::BOOK;
-use libc::STDIN_FILENO;
-use libc::STDOUT_FILENO;
-use program::Turn;
-use program::next_turn;
+use libc::{STDIN_FILENO, STDOUT_FILENO};
+use program::{Turn, next_turn};
 use wire::LONGEST;
-ghost use Prim.Native.Nat.{_-_, _≤_};
-ghost use lib.ListN.{length};
 
 // Reads behind the first `have` bytes until there are n in all or the input ends; how many came.
 fn read_on(msg: &mut [u8], have: usize, n: usize) -> usize
-    requires { ⌜ (have ≤ n) × (n ≤ length (now msg)) ⌝ }
-    ensures { λ r. ⌜ r ≤ n - have ⌝ }
+    requires { (have ≤ n) × (n ≤ length msg.old) }
+    ensures { result ≤ n - have }
 {
     io::read_full(STDIN_FILENO, &mut msg[have..n])
 }
 
 fn write_front(out: &[u8], said: usize)
-    requires { ⌜ said ≤ length (now out) ⌝ }
+    requires { said ≤ length out.now }
 {
     io::write_all(STDOUT_FILENO, &out[0..said]);
 }

@@ -1,76 +1,74 @@
 -- Laws: the parts of a message one after the other are the whole of it. Assumes nothing.
 --     record-long      each record has its 47 bytes
 --     whole-message    the head and then the records are the message
---     next-record      one record more
---     no-record        past the last record
-use Prim.Native.Nat.{ℕ, _+_, _*_, _≤_, _<_}
-use native.Mathlib.Numerals.{add-one}
-use native.Mathlib.Omega.{arith}
-use mathlib.Core.Path.{_≡_, sym, ap, ap₂, _∙_}
-use mathlib.Core.List.{List, _++_, map, append-assoc}
-use lib.Dec.{T}
-use lib.ListN.{length, getD, take, drop, drop-of-length-le, take-append-drop}
-use lib.Seq.{take-at, drop-at, drop-drop, drop-cons}
-use Rattle·lists.specs.TestLaws.{_∈_}
-use Rattle·lists.specs.Part.{patch, take-patch, drop-past}
-use Rattle·lists.specs.Rows.{flat}
-use Rattle·tally.specs.Body.{bodyFits}
-use Rattle·ledger.specs.Message.{Message, messageFits}
-use Rattle·ledger.specs.Record.{Record}
-use Rattle·wire.specs.Kinds.{headKind, recordKind, headLong, recordLong}
-use Rattle·wire.specs.Laws.{length-written}
-use Rattle·wire.specs.Write.{written}
-use Rattle·message.specs.Message.{headOf, lineFor, messageBytes}
-use Rattle·message.specs.MessageLaws.{head-long, records-writable, length-bytes-of}
-use Rattle·send_step·specs.specs.Parts.{recordBytes, startAt, withHead, withRecords}
+--     next_record      one record more
+--     no_record_lem        past the last record
+use Prim.Native.Nat.{ℕ, ◌+◌, ◌*◌, ◌≤◌, ◌<◌}
+use Rattle.std.proofs.Common.{add-one, arith, ap, ◌∙◌, drop_of_length-le, take-append-drop, take_at, drop_at, drop-drop, drop-cons}
+use Rattle.std.specs.Prelude.{◌≡◌, T, get_or, take, drop}
+use Rattle.std.proofs.Math.Path.{sym, ap₂}
+use mathlib.Core.List.{List, ◌++◌, map, append_assoc}
+use Rattle.std.proofs.Math.ListN.{length}
+use Rattle.lists.specs.TestLaws.{◌∈◌}
+use Rattle.lists.specs.Part.{patch, take-patch, drop_past}
+use Rattle.lists.specs.Rows.{flat}
+use Rattle.tally.specs.Body.{body_fits}
+use Rattle.ledger.specs.Message.{Message, message_fits}
+use Rattle.ledger.specs.Record.{Record}
+use Rattle.wire.specs.Kinds.{head_kind, record_kind, head_long, record_long}
+use Rattle.wire.specs.Laws.{length-written}
+use Rattle.wire.specs.Write.{written}
+use Rattle.message.specs.Message.{head_of, line_for, message_bytes}
+use Rattle.message.specs.MessageLaws.{head-long, records-writable, length-bytes-of}
+use Rattle.send_step.specs.Parts.{record_bytes, start_at, with_head, with_records}
 
-module _ (m : Message) (h : T (messageFits bodyFits m)) where
-  pub record-long : (r : Record) → r ∈ m .records → length (recordBytes m r) ≡ recordLong
-  unfolding recordBytes recordKind
-  record-long r i = length-written (recordKind (m .screens) (m .stamp)) (lineFor r) (records-writable m h r i)
+module _ (m : Message) (h : T (message_fits body_fits m)) where
+  pub record-long : (r : Record) → r ∈ m.records → length (record_bytes m r) ≡ record_long
+  unfolding record_bytes record_kind
+  record-long r i = length-written (record_kind m.screens m.stamp) (line_for r) (records-writable m h r i)
 
   pub whole-message : (out : List ℕ)
-      → withRecords m (m .records) headLong (startAt (length (m .records))) (withHead m out)
-      ≡ messageBytes m ++ drop (length (messageBytes m)) out
-  unfolding withRecords withHead messageBytes recordBytes
+      → with_records m m.records head_long (start_at (length m.records)) (with_head m out)
+      ≡ message_bytes m ++ drop (length (message_bytes m)) out
+  unfolding with_records with_head message_bytes record_bytes
   whole-message out =
-      ap₂ _++_ (take-at (written headKind (headOf m)) (drop headLong out) headLong (head-long m h))
-      (ap (λ (l : List ℕ). flat (map (recordBytes m) (m .records)) ++ l) past)
-      ∙ sym (append-assoc (written headKind (headOf m)) (flat (map (recordBytes m) (m .records)))
-      (drop (length (messageBytes m)) out))
+      ap₂ ◌++◌ (take_at (written head_kind (head_of m)) (drop head_long out) head_long (head-long m h))
+      (ap (λ (l : List ℕ). flat (map (record_bytes m) m.records) ++ l) past)
+      ∙ sym (append_assoc (written head_kind (head_of m)) (flat (map (record_bytes m) m.records))
+      (drop (length (message_bytes m)) out))
     where
       count : ℕ
-      count = length (m .records) * recordLong
+      count = length m.records * record_long
 
-      past : drop (headLong + count) (written headKind (headOf m) ++ drop headLong out)
-          ≡ drop (length (messageBytes m)) out
+      past : drop (head_long + count) (written head_kind (head_of m) ++ drop head_long out)
+          ≡ drop (length (message_bytes m)) out
       past =
-          sym (drop-drop count headLong (written headKind (headOf m) ++ drop headLong out))
-          ∙ ap (drop count) (drop-at (written headKind (headOf m)) (drop headLong out) headLong (head-long m h))
-          ∙ drop-drop count headLong out
+          sym (drop-drop count head_long (written head_kind (head_of m) ++ drop head_long out))
+          ∙ ap (drop count) (drop_at (written head_kind (head_of m)) (drop head_long out) head_long (head-long m h))
+          ∙ drop-drop count head_long out
           ∙ ap (λ (k : ℕ). drop k out) (sym (length-bytes-of m h))
 
 -- one turn of the pass over the records: the i-th is put at its place
-pub next-record :
+pub next_record :
     (m : Message) (rs : List Record) (out : List ℕ) (i at end : ℕ) (d : Record) → i < length rs
-    → length (recordBytes m (getD rs i d)) ≡ recordLong
-    → at + recordLong ≤ end → end ≤ length out
-    → withRecords m (drop i rs) at end out
-    ≡ withRecords m (drop (i + 1) rs) (at + recordLong) end (patch at recordLong out (recordBytes m (getD rs i d)))
-unfolding withRecords flat
-next-record m rs out i at end d l n u v =
-    let ys = recordBytes m (getD rs i d) in
-    let fits : at + recordLong ≤ length out = omega arith in
+    → length (record_bytes m (get_or rs i d)) ≡ record_long
+    → at + record_long ≤ end → end ≤ length out
+    → with_records m (drop i rs) at end out
+    ≡ with_records m (drop (i + 1) rs) (at + record_long) end (patch at record_long out (record_bytes m (get_or rs i d)))
+unfolding with_records flat
+next_record m rs out i at end d l n u v =
+    let ys = record_bytes m (get_or rs i d) in
+    let fits : at + record_long ≤ length out = omega arith in
     rw (
       add-one,
       drop-cons rs i d l,
-      append-assoc ys,
-      take-patch at recordLong out ys fits n,
-      drop-past at recordLong out ys fits n end u,
-      append-assoc (take at out) ys,
+      append_assoc ys,
+      take-patch at record_long out ys fits n,
+      drop_past at record_long out ys fits n end u,
+      append_assoc (take at out) ys,
     )
 
-pub no-record : (m : Message) (rs : List Record) (out : List ℕ) (i end : ℕ) → length rs ≤ i
-    → withRecords m (drop i rs) end end out ≡ out
-unfolding withRecords flat
-no-record m rs out i end h = rw (drop-of-length-le rs h) (take-append-drop end out)
+pub no_record_lem : (m : Message) (rs : List Record) (out : List ℕ) (i end : ℕ) → length rs ≤ i
+    → with_records m (drop i rs) end end out ≡ out
+unfolding with_records flat
+no_record_lem m rs out i end h = rw (drop_of_length-le rs h) (take-append-drop end out)

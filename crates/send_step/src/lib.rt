@@ -1,43 +1,29 @@
 // Send: the known stamp and the whole log as one gossip message at the front of a lent output.
-use lent::known_of;
-use lent::log_row;
-use lent::logged_of;
-use lent::screen_of;
-use lent::screens_of;
-use log::BODY;
-use log::LABEL;
-use log::NUMBER;
-use log::ORIGIN;
-use requests::write_head;
-use requests::write_record;
-use stamp::Parts;
-use stamp::parts_at;
+ghost use Rattle.std.specs.Prelude.{◌≡◌, ◌+◌, ◌-◌, ◌≤◌, ◌<◌, T, length, get_or};
+ghost use Rattle.lists.specs.Part.{patch};
+ghost use Rattle.stamp.specs.Parts.{list_of};
+ghost use Rattle.log.specs.Region.{row_long, record_at};
+ghost use Rattle.wire.specs.Kinds.{record_kind, head_long, record_long};
+ghost use Rattle.wire.specs.Write.{Meets, writable, written};
+ghost use Rattle.message.specs.Message.{line_for, message_bytes};
+ghost use Rattle.meaning.specs.Book.{known};
+ghost use Rattle.meaning.specs.Step.{send};
+ghost use Rattle.lent.specs.Words.{book_of, lawful};
+ghost use Rattle.lent.specs.Rows.{no_record};
+ghost use Rattle.promise.specs.Lent.{put_front};
+ghost use Rattle.send_step.specs.Parts.{start_at, record_bytes, with_head, with_records};
+
+use lent::{known_of, log_row, logged_of, screen_of, screens_of};
+use log::{BODY, LABEL, NUMBER, ORIGIN};
+use requests::{write_head, write_record};
+use stamp::{Parts, parts_at};
 use tally::unpack;
-use wire::HEAD_SIZE;
-use wire::RECORD_SIZE;
-use wire::SHORT;
-use wire::Written;
-ghost use mathlib.Core.Path.{_≡_};
-ghost use Prim.Native.Nat.{_+_, _-_, _≤_, _<_};
-ghost use lib.Dec.{T};
-ghost use lib.ListN.{length, getD};
-ghost use Rattle·lists.specs.Part.{patch};
-ghost use Rattle·stamp.specs.Parts.{listOf};
-ghost use Rattle·log.specs.Region.{rowLong, recordAt};
-ghost use Rattle·wire.specs.Kinds.{recordKind, headLong, recordLong};
-ghost use Rattle·wire.specs.Write.{Meets, writable, written};
-ghost use Rattle·message.specs.Message.{lineFor, messageBytes};
-ghost use Rattle·meaning.specs.Book.{known};
-ghost use Rattle·meaning.specs.Step.{send};
-ghost use Rattle·lent.specs.Words.{bookOf, lawful};
-ghost use Rattle·lent.specs.Rows.{noRecord};
-ghost use Rattle·promise.specs.Lent.{putFront};
-ghost use Rattle·send_step·specs.specs.Parts.{startAt, recordBytes, withHead, withRecords};
+use wire::{HEAD_SIZE, RECORD_SIZE, SHORT, Written};
 
 // The known stamp.
 fn stamp_of(b: &[u64]) -> Parts
-    requires { ⌜ T (lawful (now b)) ⌝ }
-    ensures { λ r. ⌜ listOf r ≡ known (bookOf (now (b .entry))) ⌝ }
+    requires { T (lawful b.now) }
+    ensures { list_of result ≡ known (book_of b.now) }
 {
     let s = known_of(b);
     parts_at(&s, 0)
@@ -45,19 +31,19 @@ fn stamp_of(b: &[u64]) -> Parts
 
 // The message's head at the front of out, which has m as its stamp.
 fn put_head(b: &[u64], m: Parts, out: &mut [u8])
-    requires { ⌜ T (lawful (now b)) ⌝ }
-    requires { ⌜ listOf m ≡ known (bookOf (now b)) ⌝ }
-    requires { ⌜ headLong ≤ length (now out) ⌝ }
-    ensures { λ _. ⌜ now (out .exit) ≡ withHead (send (bookOf (now (b .entry)))) (now (out .entry)) ⌝ }
+    requires t { T (lawful b.now) }
+    requires m_value { list_of m ≡ known (book_of b.now) }
+    requires head_long_in_bounds { head_long ≤ length out.old }
+    ensures { out.new ≡ with_head (send (book_of b.now)) out.old }
 {
     write_head(screen_of(b), screens_of(b), logged_of(b) as u64, m, out);
 }
 
 // A row's record over the whole of a part, in a message of n screens and stamp m.
 fn put_row(row: &[u64], n: usize, m: Parts, part: &mut [u8])
-    requires { ⌜ (length (now row) ≡ rowLong) × (length (now part) ≡ recordLong) ⌝ }
-    requires { ⌜ T (writable (recordKind n (listOf m)) (lineFor (recordAt (now row)))) ⌝ }
-    ensures { λ _. ⌜ now (part .exit) ≡ written (recordKind n (listOf m)) (lineFor (recordAt (now (row .entry)))) ⌝ }
+    requires row_len { (length row.now ≡ row_long) × (length part.old ≡ record_long) }
+    requires t { T (writable (record_kind n (list_of m)) (line_for (record_at row.now))) }
+    ensures { part.new ≡ written (record_kind n (list_of m)) (line_for (record_at row.now)) }
 {
     let label = parts_at(row, LABEL);
     let tap = unpack(row[BODY]);
@@ -66,23 +52,22 @@ fn put_row(row: &[u64], n: usize, m: Parts, part: &mut [u8])
 
 // The same over the part of out from a up to e.
 fn put_row_at(row: &[u64], n: usize, m: Parts, out: &mut [u8], a: usize, e: usize)
-    requires { ⌜ (length (now row) ≡ rowLong) × (a ≤ e) × (e ≤ length (now out)) × (e - a ≡ recordLong) ⌝ }
-    requires { ⌜ T (writable (recordKind n (listOf m)) (lineFor (recordAt (now row)))) ⌝ }
-    ensures { λ _. ⌜ now (out .exit)
-        ≡ patch a (e - a) (now (out .entry)) (written (recordKind n (listOf m)) (lineFor (recordAt (now (row .entry)))))
-        ⌝ }
+    requires row_len { (length row.now ≡ row_long) × (a ≤ e) × (e ≤ length out.old) × (e - a ≡ record_long) }
+    requires t { T (writable (record_kind n (list_of m)) (line_for (record_at row.now))) }
+    ensures { out.new
+        ≡ patch a (e - a) out.old (written (record_kind n (list_of m)) (line_for (record_at row.now))) }
 {
     put_row(row, n, m, &mut out[a..e]);
 }
 
 // The log's i-th record at its place in the message.
 fn put_record(b: &[u64], i: usize, m: Parts, out: &mut [u8])
-    requires { ⌜ T (lawful (now b)) ⌝ }
-    requires { ⌜ listOf m ≡ known (bookOf (now b)) ⌝ }
-    requires { ⌜ (i < length ((bookOf (now b)) .log)) × (startAt (i + 1) ≤ length (now out)) ⌝ }
-    ensures { λ _. ⌜ now (out .exit)
-        ≡ patch (startAt i) recordLong (now (out .entry))
-        (recordBytes (send (bookOf (now (b .entry)))) (getD ((bookOf (now (b .entry))) .log) i noRecord)) ⌝ }
+    requires t { T (lawful b.now) }
+    requires m_value { list_of m ≡ known (book_of b.now) }
+    requires i_in_bounds { (i < length (book_of b.now).log) × (start_at (i + 1) ≤ length out.old) }
+    ensures { out.new
+        ≡ patch (start_at i) record_long out.old
+        (record_bytes (send (book_of b.now)) (get_or (book_of b.now).log i no_record)) }
 {
     let row = log_row(b, i);
     let a = HEAD_SIZE + i * RECORD_SIZE;
@@ -91,12 +76,12 @@ fn put_record(b: &[u64], i: usize, m: Parts, out: &mut [u8])
 
 // The log's records behind the head.
 fn put_records(b: &[u64], m: Parts, out: &mut [u8])
-    requires { ⌜ T (lawful (now b)) ⌝ }
-    requires { ⌜ listOf m ≡ known (bookOf (now b)) ⌝ }
-    requires { ⌜ startAt (length ((bookOf (now b)) .log)) ≤ length (now out) ⌝ }
-    ensures { λ _. ⌜ now (out .exit)
-        ≡ withRecords (send (bookOf (now (b .entry)))) ((bookOf (now (b .entry))) .log) headLong
-        (startAt (length ((bookOf (now (b .entry))) .log))) (now (out .entry)) ⌝ }
+    requires t { T (lawful b.now) }
+    requires m_value { list_of m ≡ known (book_of b.now) }
+    requires b_in_bounds { start_at (length (book_of b.now).log) ≤ length out.old }
+    ensures { out.new
+        ≡ with_records (send (book_of b.now)) (book_of b.now).log head_long
+        (start_at (length (book_of b.now).log)) out.old }
 {
     let n = logged_of(b);
     let mut i = 0;
@@ -108,9 +93,9 @@ fn put_records(b: &[u64], m: Parts, out: &mut [u8])
 
 // The message of a sound book, or refusal 12 where the output is shorter than it. Output past the message stays.
 pub fn send_book(b: &[u64], out: &mut [u8]) -> Written
-    requires { ⌜ T (lawful (now b)) ⌝ }
-    ensures { λ r. ⌜ Meets (putFront (messageBytes (send (bookOf (now (b .entry))))) (now (out .entry))) r
-        (now (out .exit)) ⌝ }
+    requires { T (lawful b.now) }
+    ensures { Meets (put_front (message_bytes (send (book_of b.now))) out.old) result
+        out.new }
 {
     let long = HEAD_SIZE + logged_of(b) * RECORD_SIZE;
     if out.len() < long {

@@ -1,63 +1,37 @@
 // Whether a lent slice is sound: its shape, then each clause on the parts of the book, one pass over a part for each
 // test.
+ghost use Rattle.std.specs.Prelude.{◌≡◌, not, ◌||◌, ◌+◌, ◌-◌, ◌*◌, ◌≤◌, ◌<◌, T, leb, ltb, length};
+ghost use Rattle.lists.specs.Rows.{rows};
+ghost use Rattle.lists.specs.Tests.{all, every};
+ghost use Rattle.limits.specs.Limits.{parts, word, count_limit};
+ghost use Rattle.stamp.specs.Stamp.{at_most, total, stamp_fits};
+ghost use Rattle.tally.specs.Body.{body_fits};
+ghost use Rattle.ledger.specs.Log.{waiting_in};
+ghost use Rattle.ledger.specs.Record.{is_applied};
+ghost use Rattle.log.specs.Lowest.{lowest_from};
+ghost use Rattle.log.specs.Region.{row_long, record_at, records_at};
+ghost use Rattle.taps.specs.Region.{taps_at};
+ghost use Rattle.prompts.specs.Region.{prompt_words, standings_at};
+ghost use Rattle.meaning.specs.Book.{counted_in};
+ghost use Rattle.lent.specs.Words.{book_long, in_shape, lawful};
+ghost use Rattle.soundness.specs.Clauses.{fit_rules, within_rules, log_rules, counted_rules, region_rules, piece_rules};
+ghost use Rattle.soundness.specs.SoundLaws.{Numbers, word_rules};
+
 use ledger::in_range;
-use lent::BOOK;
-use lent::LOGGED;
-use lent::SCREEN;
-use lent::SCREENS;
-use lent::TAPS;
-use lent::counted_words;
-use lent::log_words;
-use lent::prompt_words;
-use lent::table_words;
-use lent::value_words;
-use limits::PARTS;
-use limits::book_room;
-use limits::log_room;
-use limits::most_screens;
-use log::BODY;
-use log::ROW;
-use log::all_held;
-use log::count_waiting;
-use log::is_applied;
-use log::lowest;
-use log::rising_rows;
-use log::rows_sound;
+use lent::{
+    BOOK, LOGGED, SCREEN, SCREENS, TAPS, counted_words, log_words, prompt_words, table_words,
+    value_words,
+};
+use limits::{PARTS, book_room, log_room, most_screens};
+use log::{BODY, ROW, all_held, count_waiting, is_applied, lowest, rising_rows, rows_sound};
 use prompts::counts_follow;
-use stamp::at_most;
-use stamp::fits;
-use stamp::list_of;
-use stamp::parts_at;
-use stamp::sum;
-use stamp::zero_from;
+use stamp::{at_most, fits, list_of, parts_at, sum, zero_from};
 use tally::unpack;
-use taps::all_fit;
-use taps::has;
-use taps::rising_words;
-ghost use mathlib.Core.Path.{_≡_};
-ghost use mathlib.Core.Bool.{not, _||_};
-ghost use Prim.Native.Nat.{_+_, _-_, _*_, _≤_, _<_};
-ghost use lib.Dec.{T, leb, ltb};
-ghost use lib.ListN.{length};
-ghost use Rattle·lists.specs.Rows.{rows};
-ghost use Rattle·lists.specs.Tests.{all, every};
-ghost use Rattle·limits.specs.Limits.{parts, word, countLimit};
-ghost use Rattle·stamp.specs.Stamp.{atMost, total, stampFits};
-ghost use Rattle·tally.specs.Body.{bodyFits};
-ghost use Rattle·ledger.specs.Log.{waitingIn};
-ghost use Rattle·ledger.specs.Record.{isApplied};
-ghost use Rattle·log.specs.Lowest.{lowestFrom};
-ghost use Rattle·log.specs.Region.{rowLong, recordAt, recordsAt};
-ghost use Rattle·taps.specs.Region.{tapsAt};
-ghost use Rattle·prompts.specs.Region.{promptWords, standingsAt};
-ghost use Rattle·meaning.specs.Book.{countedIn};
-ghost use Rattle·lent.specs.Words.{bookLong, inShape, lawful};
-ghost use Rattle·soundness·specs.specs.Clauses.{fitRules, withinRules, logRules, countedRules, regionRules, pieceRules};
-ghost use Rattle·soundness·specs.specs.SoundLaws.{Numbers, wordRules};
+use taps::{all_fit, has, rising_words};
 
 // The one length, numbers within their places, unused places zero.
 fn in_shape(b: &[u64]) -> bool
-    ensures { λ r. ⌜ r ≡ inShape (now (b .entry)) ⌝ }
+    ensures { result ≡ in_shape b.now }
 {
     if b.len() != BOOK {
         return false;
@@ -85,8 +59,8 @@ fn in_shape(b: &[u64]) -> bool
 
 // Whether each of the table's n rows is a stamp of a house of n screens.
 fn rows_fit(table: &[u64], n: usize) -> bool
-    requires { ⌜ n * parts ≤ length (now table) ⌝ }
-    ensures { λ r. ⌜ r ≡ every (stampFits n) (rows parts n (now (table .entry))) ⌝ }
+    requires { n * parts ≤ length table.now }
+    ensures { result ≡ every (stamp_fits n) (rows parts n table.now) }
 {
     let mut i = 0;
     let mut at = 0;
@@ -103,9 +77,9 @@ fn rows_fit(table: &[u64], n: usize) -> bool
 
 // Whether none of the table's n rows exceeds the known stamp.
 fn rows_within(table: &[u64], n: usize, known: &[u64]) -> bool
-    requires { ⌜ n * parts ≤ length (now table) ⌝ }
-    requires { ⌜ length (now known) ≡ parts ⌝ }
-    ensures { λ r. ⌜ r ≡ every (λ s. atMost s (now (known .entry))) (rows parts n (now (table .entry))) ⌝ }
+    requires parts_in_bounds { n * parts ≤ length table.now }
+    requires known_len { length known.now ≡ parts }
+    ensures { result ≡ every (λ s. at_most s known.now) (rows parts n table.now) }
 {
     let mut i = 0;
     let mut at = 0;
@@ -122,8 +96,8 @@ fn rows_within(table: &[u64], n: usize, known: &[u64]) -> bool
 
 // Whether the rows and the value stamp are stamps of a house of n screens.
 fn stamps_fit(table: &[u64], n: usize, value: &[u64]) -> bool
-    requires { ⌜ n * parts ≤ length (now table) ⌝ }
-    ensures { λ r. ⌜ r ≡ all (fitRules n (rows parts n (now (table .entry))) (now (value .entry))) ⌝ }
+    requires { n * parts ≤ length table.now }
+    ensures { result ≡ all (fit_rules n (rows parts n table.now) value.now) }
 {
     if !rows_fit(table, n) {
         return false;
@@ -133,11 +107,10 @@ fn stamps_fit(table: &[u64], n: usize, value: &[u64]) -> bool
 
 // Whether the known stamp is within the book's room, and no row and not the value stamp exceeds it.
 fn stamps_within(table: &[u64], n: usize, value: &[u64], known: &[u64]) -> bool
-    requires { ⌜ n * parts ≤ length (now table) ⌝ }
-    requires { ⌜ (length (now value) ≡ parts) × (length (now known) ≡ parts) ⌝ }
-    requires { ⌜ T (every (λ x. ltb x word) (now known)) ⌝ }
-    ensures { λ r. ⌜ r ≡ all (withinRules (now (known .entry)) (rows parts n (now (table .entry))) (now (value .entry)))
-        ⌝ }
+    requires parts_in_bounds { n * parts ≤ length table.now }
+    requires value_len { (length value.now ≡ parts) × (length known.now ≡ parts) }
+    requires t { T (every (λ x. ltb x word) known.now) }
+    ensures { result ≡ all (within_rules known.now (rows parts n table.now) value.now) }
 {
     if book_room() < sum(known) {
         return false;
@@ -150,9 +123,9 @@ fn stamps_within(table: &[u64], n: usize, value: &[u64], known: &[u64]) -> bool
 
 // The smallest in each part of the known stamp and the table's n rows.
 fn lowest_of(table: &[u64], n: usize, known: &[u64]) -> [u64; PARTS]
-    requires { ⌜ n * parts ≤ length (now table) ⌝ }
-    requires { ⌜ length (now known) ≡ parts ⌝ }
-    ensures { λ r. ⌜ r ≡ lowestFrom (now (known .entry)) (rows parts n (now (table .entry))) ⌝ }
+    requires parts_in_bounds { n * parts ≤ length table.now }
+    requires known_len { length known.now ≡ parts }
+    ensures { result ≡ lowest_from known.now (rows parts n table.now) }
 {
     let p = parts_at(known, 0);
     let mut low = list_of(p);
@@ -162,8 +135,8 @@ fn lowest_of(table: &[u64], n: usize, known: &[u64]) -> [u64; PARTS]
 
 // Whether each record's body keeps the rule of bodies.
 fn bodies_fit(r: &[u64], count: usize) -> bool
-    requires { ⌜ count * rowLong ≤ length (now r) ⌝ }
-    ensures { λ b. ⌜ b ≡ every (λ x. bodyFits (x .body)) (recordsAt count (now (r .entry))) ⌝ }
+    requires { count * row_long ≤ length r.now }
+    ensures { result ≡ every (λ x. body_fits x.body) (records_at count r.now) }
 {
     let mut i = 0;
     let mut at = 0;
@@ -179,8 +152,8 @@ fn bodies_fit(r: &[u64], count: usize) -> bool
 }
 
 fn body_fits(row: &[u64]) -> bool
-    requires { ⌜ length (now row) ≡ rowLong ⌝ }
-    ensures { λ r. ⌜ r ≡ bodyFits (recordAt (now (row .entry)) .body) ⌝ }
+    requires { length row.now ≡ row_long }
+    ensures { result ≡ body_fits (record_at row.now).body }
 {
     tally::fits(unpack(row[BODY]))
 }
@@ -195,12 +168,12 @@ fn log_sound(
     low: &[u64],
     value: &[u64],
 ) -> bool
-    requires { ⌜ count * rowLong ≤ length (now r) ⌝ }
-    requires { ⌜ (length (now known) ≡ parts) × (length (now ready) ≡ parts) ⌝ }
-    requires { ⌜ (length (now low) ≡ parts) × (length (now value) ≡ parts) × (n ≤ parts) ⌝ }
-    ensures { λ b. ⌜ b
-        ≡ all (logRules n (now (known .entry)) (now (ready .entry)) (now (low .entry)) (now (value .entry))
-        (recordsAt count (now (r .entry)))) ⌝ }
+    requires row_long_in_bounds { count * row_long ≤ length r.now }
+    requires known_len { (length known.now ≡ parts) × (length ready.now ≡ parts) }
+    requires low_len { (length low.now ≡ parts) × (length value.now ≡ parts) × (n ≤ parts) }
+    ensures { result
+        ≡ all (log_rules n known.now ready.now low.now value.now
+        (records_at count r.now)) }
 {
     if !rising_rows(r, count) {
         return false;
@@ -216,11 +189,11 @@ fn log_sound(
 
 // Whether a record's tap is counted if the record is applied.
 fn row_counted(row: &[u64], ready: &[u64], counted: &[u64], taps: usize) -> bool
-    requires { ⌜ length (now row) ≡ rowLong ⌝ }
-    requires { ⌜ length (now ready) ≡ parts ⌝ }
-    requires { ⌜ taps ≤ length (now counted) ⌝ }
-    ensures { λ r. ⌜ r ≡ (not (isApplied (now (ready .entry)) (recordAt (now (row .entry))))
-        || countedIn (tapsAt taps (now (counted .entry))) (recordAt (now (row .entry)))) ⌝ }
+    requires row_len { length row.now ≡ row_long }
+    requires ready_len { length ready.now ≡ parts }
+    requires taps_in_bounds { taps ≤ length counted.now }
+    ensures { result ≡ (not (is_applied ready.now (record_at row.now))
+        || counted_in (taps_at taps counted.now) (record_at row.now)) }
 {
     if !is_applied(row, ready) {
         return true;
@@ -230,12 +203,12 @@ fn row_counted(row: &[u64], ready: &[u64], counted: &[u64], taps: usize) -> bool
 
 // Whether each applied log record's tap is counted.
 fn rows_counted(r: &[u64], count: usize, ready: &[u64], counted: &[u64], taps: usize) -> bool
-    requires { ⌜ count * rowLong ≤ length (now r) ⌝ }
-    requires { ⌜ length (now ready) ≡ parts ⌝ }
-    requires { ⌜ taps ≤ length (now counted) ⌝ }
-    ensures { λ b. ⌜ b
-        ≡ every (λ x. not (isApplied (now (ready .entry)) x) || countedIn (tapsAt taps (now (counted .entry))) x)
-        (recordsAt count (now (r .entry))) ⌝ }
+    requires row_long_in_bounds { count * row_long ≤ length r.now }
+    requires ready_len { length ready.now ≡ parts }
+    requires taps_in_bounds { taps ≤ length counted.now }
+    ensures { result
+        ≡ every (λ x. not (is_applied ready.now x) || counted_in (taps_at taps counted.now) x)
+        (records_at count r.now) }
 {
     let mut i = 0;
     let mut at = 0;
@@ -252,13 +225,13 @@ fn rows_counted(r: &[u64], count: usize, ready: &[u64], counted: &[u64], taps: u
 
 // Whether the counted taps and the waiting records together are at most the known records.
 fn few_enough(r: &[u64], count: usize, known: &[u64], ready: &[u64], taps: usize) -> bool
-    requires { ⌜ count * rowLong ≤ length (now r) ⌝ }
-    requires { ⌜ (length (now known) ≡ parts) × T (every (λ x. ltb x word) (now known))
-        × (length (now ready) ≡ parts) ⌝ }
-    requires { ⌜ (taps < countLimit) × (count < countLimit) ⌝ }
-    ensures { λ b. ⌜ b
-        ≡ leb (taps + length (waitingIn (now (known .entry)) (now (ready .entry)) (recordsAt count (now (r .entry)))))
-        (total (now (known .entry))) ⌝ }
+    requires row_long_in_bounds { count * row_long ≤ length r.now }
+    requires known_len { (length known.now ≡ parts) × T (every (λ x. ltb x word) known.now)
+        × (length ready.now ≡ parts) }
+    requires taps_lt_count_limit { (taps < count_limit) × (count < count_limit) }
+    ensures { result
+        ≡ leb (taps + length (waiting_in known.now ready.now (records_at count r.now)))
+        (total known.now) }
 {
     let waiting = count_waiting(r, count, known, ready);
     (taps + waiting) as u64 <= sum(known)
@@ -273,12 +246,12 @@ fn counted_sound(
     known: &[u64],
     ready: &[u64],
 ) -> bool
-    requires { ⌜ count * rowLong ≤ length (now r) ⌝ }
-    requires { ⌜ (length (now known) ≡ parts) × T (every (λ x. ltb x word) (now known))
-        × (length (now ready) ≡ parts) ⌝ }
-    requires { ⌜ (taps ≤ length (now counted)) × (taps < countLimit) × (count < countLimit) ⌝ }
-    ensures { λ b. ⌜ b ≡ all (countedRules (now (known .entry)) (now (ready .entry)) (recordsAt count (now (r .entry)))
-        (tapsAt taps (now (counted .entry)))) ⌝ }
+    requires row_long_in_bounds { count * row_long ≤ length r.now }
+    requires known_len { (length known.now ≡ parts) × T (every (λ x. ltb x word) known.now)
+        × (length ready.now ≡ parts) }
+    requires taps_in_bounds { (taps ≤ length counted.now) × (taps < count_limit) × (count < count_limit) }
+    ensures { result ≡ all (counted_rules known.now ready.now (records_at count r.now)
+        (taps_at taps counted.now)) }
 {
     if !rising_words(counted, taps) {
         return false;
@@ -305,15 +278,15 @@ fn regions_sound(
     taps: usize,
     prompts: &[u64],
 ) -> bool
-    requires { ⌜ (n * parts ≤ length (now table)) × (n ≤ parts) × (length (now value) ≡ parts) ⌝ }
-    requires { ⌜ (length (now known) ≡ parts) × T (every (λ x. ltb x word) (now known))
-        × (length (now ready) ≡ parts) ⌝ }
-    requires { ⌜ (logged * rowLong ≤ length (now log)) × (logged < countLimit) ⌝ }
-    requires { ⌜ (taps ≤ length (now counted)) × (taps < countLimit) × (length (now prompts) ≡ promptWords) ⌝ }
-    ensures { λ r. ⌜ r
-        ≡ all (regionRules n (now (known .entry)) (now (ready .entry)) (rows parts n (now (table .entry)))
-        (now (value .entry)) (recordsAt logged (now (log .entry))) (tapsAt taps (now (counted .entry)))
-        (standingsAt (now (prompts .entry)))) ⌝ }
+    requires parts_in_bounds { (n * parts ≤ length table.now) × (n ≤ parts) × (length value.now ≡ parts) }
+    requires known_len { (length known.now ≡ parts) × T (every (λ x. ltb x word) known.now)
+        × (length ready.now ≡ parts) }
+    requires row_long_in_bounds { (logged * row_long ≤ length log.now) × (logged < count_limit) }
+    requires taps_in_bounds { (taps ≤ length counted.now) × (taps < count_limit) × (length prompts.now ≡ prompt_words) }
+    ensures { result
+        ≡ all (region_rules n known.now ready.now (rows parts n table.now)
+        value.now (records_at logged log.now) (taps_at taps counted.now)
+        (standings_at prompts.now)) }
 {
     if !stamps_within(table, n, value, known) {
         return false;
@@ -340,12 +313,12 @@ fn pieces_sound(
     taps: usize,
     prompts: &[u64],
 ) -> bool
-    requires { ⌜ (n * parts ≤ length (now table)) × (n ≤ parts) × (i < n) × (length (now value) ≡ parts) ⌝ }
-    requires { ⌜ (logged * rowLong ≤ length (now log)) × (logged < countLimit) ⌝ }
-    requires { ⌜ (taps ≤ length (now counted)) × (taps < countLimit) × (length (now prompts) ≡ promptWords) ⌝ }
-    ensures { λ r. ⌜ r ≡ all
-        (pieceRules (now (table .entry)) i n (now (value .entry)) (now (log .entry)) logged (now (counted .entry)) taps
-        (now (prompts .entry))) ⌝ }
+    requires parts_in_bounds { (n * parts ≤ length table.now) × (n ≤ parts) × (i < n) × (length value.now ≡ parts) }
+    requires row_long_in_bounds { (logged * row_long ≤ length log.now) × (logged < count_limit) }
+    requires taps_in_bounds { (taps ≤ length counted.now) × (taps < count_limit) × (length prompts.now ≡ prompt_words) }
+    ensures { result ≡ all
+        (piece_rules table.now i n value.now log.now logged counted.now taps
+        prompts.now) }
 {
     if !stamps_fit(table, n, value) {
         return false;
@@ -368,9 +341,9 @@ fn pieces_sound(
 
 // The same on a slice of the one length, its numbers within their places.
 fn words_sound(b: &[u64]) -> bool
-    requires { ⌜ length (now b) ≡ bookLong ⌝ }
-    requires { ⌜ Numbers (now b) ⌝ }
-    ensures { λ r. ⌜ r ≡ all (wordRules (now (b .entry))) ⌝ }
+    requires b_len { length b.now ≡ book_long }
+    requires numbers { Numbers b.now }
+    ensures { result ≡ all (word_rules b.now) }
 {
     let i = b[SCREEN] as usize;
     let n = b[SCREENS] as usize;
@@ -391,7 +364,7 @@ fn words_sound(b: &[u64]) -> bool
 
 // Whether the slice, of any length, holds a sound book.
 pub fn sound(b: &[u64]) -> bool
-    ensures { λ r. ⌜ r ≡ lawful (now (b .entry)) ⌝ }
+    ensures { result ≡ lawful b.now }
 {
     if !in_shape(b) {
         return false;

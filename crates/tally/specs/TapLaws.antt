@@ -1,47 +1,44 @@
 -- Laws of taps: being among some taps, and the field rules as facts. Assumes nothing.
-use Prim.Native.Nat.{_<_, _≤_}
-use native.Mathlib.Omega.{arith}
-use mathlib.Core.Path.{_≡_, subst, sym}
-use mathlib.Core.Logic.{_⊎_, inl, inr}
-use mathlib.Core.List.{List}
-use lib.Dec.{T, ltb, ltb→lt, leb, leb→le, nleb→lt}
-use Rattle·lists.specs.TestLaws.{_∈_, exists-from, exists-at, given, and-l, and-r, either, tell}
-use Rattle·limits.specs.Limits.{promptCount, accept, decline, showings}
-use Rattle·tally·specs.specs.Standing.{among}
-use Rattle·tally·specs.specs.Tap.{sameTap, tapFits, tapRules}
-use Rattle·tally·specs.specs.WordLaws.{same-tap, tap-same}
-use Rattle·tally·specs.specs.declared.Tap.{Tap}
+use Rattle.std.specs.Prelude.{◌<◌, ◌≤◌, ◌≡◌, ◌⊎◌, List, T, ltb, leb}
+use Rattle.std.proofs.Common.{arith, subst, sym, inl, inr, ltb→lt, leb→le}
+use Rattle.std.proofs.Math.Dec.{nleb→lt}
+use Rattle.lists.specs.TestLaws.{◌∈◌, exists-from, exists-at, given, and_l, and_r, either, tell}
+use Rattle.limits.specs.Limits.{prompt_count, accept, decline, showings}
+use Rattle.tally.specs.Standing.{among}
+use Rattle.tally.specs.Tap.{same_tap, tap_fits, tap_rules}
+use Rattle.tally.specs.WordLaws.{same_tap_lem, tap-same}
+use Rattle.tally.specs.declared.Tap.{Tap}
 
 -- among some taps, by the test and by membership
 pub mem-among : (t : Tap) (ts : List Tap) → t ∈ ts → T (among ts t)
 unfolding among
-mem-among t ts m = exists-from (sameTap t) ts m (tap-same t)
+mem-among t ts m = exists-from (same_tap t) ts m (tap-same t)
 
-pub among-mem : (t : Tap) (ts : List Tap) → T (among ts t) → t ∈ ts
+pub among_mem : (t : Tap) (ts : List Tap) → T (among ts t) → t ∈ ts
 unfolding among
-among-mem t ts h = go (exists-at (sameTap t) ts h)
+among_mem t ts h = go (exists-at (same_tap t) ts h)
   where
-    go : ((u : Tap) × (u ∈ ts) × T (sameTap t u)) → t ∈ ts
-    go w = subst (λ (u : Tap). u ∈ ts) (sym (same-tap t (w .0) (w .2))) (w .1)
+    go : ((u : Tap) × (u ∈ ts) × T (same_tap t u)) → t ∈ ts
+    go w = subst (λ (u : Tap). u ∈ ts) (sym (same_tap_lem t w.0 w.2)) w.1
 
 -- a fitting tap's prompt is one of the prompts, its showing one of the showings, and its answer is accept or decline
-pub prompt-in : (t : Tap) → T (tapFits t) → t .prompt < promptCount
-unfolding tapFits
-prompt-in t h = given (tapRules t) h (λ front serial prompt showing answer. ltb→lt (t .prompt) promptCount prompt)
+pub prompt_in_lem : (t : Tap) → T (tap_fits t) → t.prompt < prompt_count
+unfolding tap_fits
+prompt_in_lem t h = given (tap_rules t) h (λ front serial prompt showing answer. ltb→lt t.prompt prompt_count prompt)
 
-pub showing-in : (t : Tap) → T (tapFits t) → t .showing < showings
-unfolding tapFits
-showing-in t h =
-    given (tapRules t) h
+pub showing_in : (t : Tap) → T (tap_fits t) → t.showing < showings
+unfolding tap_fits
+showing_in t h =
+    given (tap_rules t) h
     (λ front serial prompt showing answer.
-    ltb→lt (t .showing) showings (and-r (leb 1 (t .showing)) (ltb (t .showing) showings) showing))
+    ltb→lt t.showing showings (and_r (leb 1 t.showing) (ltb t.showing showings) showing))
 
-pub answer-either : (t : Tap) → T (tapFits t) → (t .answer ≡ accept) ⊎ (t .answer ≡ decline)
-unfolding tapFits accept decline
-answer-either t h =
-    given (tapRules t) h
+pub answer_either : (t : Tap) → T (tap_fits t) → (t.answer ≡ accept) ⊎ (t.answer ≡ decline)
+unfolding tap_fits accept decline
+answer_either t h =
+    given (tap_rules t) h
     (λ front serial prompt showing answer.
-    let lo : 1 ≤ t .answer = leb→le 1 (t .answer) (and-l (leb 1 (t .answer)) (leb (t .answer) 2) answer) in
-    let hi : t .answer ≤ 2 = leb→le (t .answer) 2 (and-r (leb 1 (t .answer)) (leb (t .answer) 2) answer) in
-    either (tell (leb (t .answer) 1)) (λ e. inl (omega (arith, leb→le (t .answer) 1 e)))
-    (λ e. inr (omega (arith, nleb→lt (t .answer) 1 e))))
+    let lo : 1 ≤ t.answer = leb→le 1 t.answer (and_l (leb 1 t.answer) (leb t.answer 2) answer) in
+    let hi : t.answer ≤ 2 = leb→le t.answer 2 (and_r (leb 1 t.answer) (leb t.answer 2) answer) in
+    either (tell (leb t.answer 1)) (λ e. inl (omega (arith, leb→le t.answer 1 e)))
+    (λ e. inr (omega (arith, nleb→lt t.answer 1 e))))

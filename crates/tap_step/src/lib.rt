@@ -1,56 +1,38 @@
 // A tap on a sound book: what stops it (refused, or known already), judged before any word changes; and its taking.
+ghost use Rattle.std.specs.Prelude.{◌≡◌, ◌+◌, ◌-◌, ◌<◌, T, leb, length, get_or};
+ghost use Rattle.std.proofs.Math.Option.{none};
+ghost use Rattle.lists.specs.Tests.{first_of};
+ghost use Rattle.limits.specs.Limits.{word, book_room};
+ghost use Rattle.stamp.specs.Parts.{list_of};
+ghost use Rattle.stamp.specs.Stamp.{part, stamp_fits, total};
+ghost use Rattle.tally.specs.Body.{body_of, body_fits};
+ghost use Rattle.tally.specs.Tap.{tap_fits};
+ghost use Rattle.ledger.specs.Record.{stamp_of};
+ghost use Rattle.log.specs.Region.{row_long, stamp_long, record_at};
+ghost use Rattle.meaning.specs.Book.{known};
+ghost use Rattle.meaning.specs.Step.{new_record, take_book, tap_stops, tap_step};
+ghost use Rattle.meaning.specs.StepLaws.{TakeDone};
+ghost use Rattle.lent.specs.Held.{Held};
+ghost use Rattle.lent.specs.Words.{book_of, words_of, lawful};
+ghost use Rattle.lent.specs.Rows.{no_record};
+ghost use Rattle.promise.specs.Lent.{Promise};
+ghost use Rattle.promise.specs.LentLaws.{lent_of};
+ghost use Rattle.tap_step.specs.Stop.{StopsTap};
+
 use ask_step::label_unknown;
-use lent::find_logged;
-use lent::is_counted;
-use lent::known_of;
-use lent::log_row;
-use lent::logged_of;
-use lent::put_record;
-use lent::raise_own;
-use lent::ready_of;
-use lent::screen_of;
-use lent::value_of;
-use limits::book_room;
-use limits::log_room;
-use log::NUMBER;
-use log::ROW;
-use log::make_row;
-use promise::NO_ROOM;
-use promise::Reply;
-use promise::SPENT;
-use promise::UNKNOWN_LABEL;
-use settle::row_stamp;
-use settle::settle_book;
-use stamp::Parts;
-use stamp::part_at;
-use stamp::parts_at;
-use stamp::sum;
-use tally::Tap;
-use tally::pack;
-ghost use mathlib.Core.Path.{_≡_};
-ghost use mathlib.Core.Option.{none};
-ghost use Prim.Native.Nat.{_+_, _-_, _<_};
-ghost use lib.Dec.{T, leb};
-ghost use lib.ListN.{length, getD};
-ghost use Rattle·lists.specs.Tests.{firstOf};
-ghost use Rattle·limits.specs.Limits.{word, bookRoom};
-ghost use Rattle·stamp.specs.Parts.{listOf};
-ghost use Rattle·stamp.specs.Stamp.{part, stampFits, total};
-ghost use Rattle·tally.specs.Body.{bodyOf, bodyFits};
-ghost use Rattle·tally.specs.Tap.{tapFits};
-ghost use Rattle·ledger.specs.Record.{stampOf};
-ghost use Rattle·log.specs.Region.{rowLong, stampLong, recordAt};
-ghost use Rattle·meaning.specs.Book.{known};
-ghost use Rattle·meaning.specs.Step.{newRecord, takeBook, tapStops, tapStep};
-ghost use Rattle·meaning.specs.StepLaws.{TakeDone};
-ghost use Rattle·lent.specs.Held.{Held};
-ghost use Rattle·lent.specs.Words.{bookOf, wordsOf, lawful};
-ghost use Rattle·lent.specs.Rows.{noRecord};
-ghost use Rattle·promise.specs.Lent.{Promise};
-ghost use Rattle·promise.specs.LentLaws.{lentOf};
-ghost use Rattle·tap_step·specs.specs.Stop.{StopsTap};
+use lent::{
+    find_logged, is_counted, known_of, log_row, logged_of, put_record, raise_own, ready_of,
+    screen_of, value_of,
+};
+use limits::{book_room, log_room};
+use log::{NUMBER, ROW, make_row};
+use promise::{NO_ROOM, Reply, SPENT, UNKNOWN_LABEL};
+use settle::{row_stamp, settle_book};
+use stamp::{Parts, part_at, parts_at, sum};
+use tally::{Tap, pack};
 
 // The reply that stops a tap, or the tap and its label, which may be taken.
+#[derive(Drop)]
 pub enum TapStop {
     Stopped(Reply),
     Clear { tap: Tap, label: Parts },
@@ -58,8 +40,8 @@ pub enum TapStop {
 
 // The stamp of a row's record.
 fn stamp_parts(row: &[u64]) -> Parts
-    requires { ⌜ (length (now row) ≡ rowLong) × (recordAt (now row) .origin < stampLong) ⌝ }
-    ensures { λ r. ⌜ listOf r ≡ stampOf (recordAt (now (row .entry))) ⌝ }
+    requires { (length row.now ≡ row_long) × ((record_at row.now).origin < stamp_long) }
+    ensures { list_of result ≡ stamp_of (record_at row.now) }
 {
     let s = row_stamp(row);
     parts_at(&s, 0)
@@ -67,9 +49,9 @@ fn stamp_parts(row: &[u64]) -> Parts
 
 // The stamp of the log's i-th record.
 fn logged_stamp(b: &[u64], i: usize) -> Parts
-    requires { ⌜ T (lawful (now b)) ⌝ }
-    requires { ⌜ i < length ((bookOf (now b)) .log) ⌝ }
-    ensures { λ r. ⌜ listOf r ≡ stampOf (getD ((bookOf (now (b .entry))) .log) i noRecord) ⌝ }
+    requires t { T (lawful b.now) }
+    requires i_in_bounds { i < length (book_of b.now).log }
+    ensures { list_of result ≡ stamp_of (get_or (book_of b.now).log i no_record) }
 {
     let row = log_row(b, i);
     stamp_parts(&row)
@@ -77,8 +59,8 @@ fn logged_stamp(b: &[u64], i: usize) -> Parts
 
 // Whether the book knows as many records as it may.
 fn is_spent(b: &[u64]) -> bool
-    requires { ⌜ T (lawful (now b)) ⌝ }
-    ensures { λ r. ⌜ r ≡ leb bookRoom (total (known (bookOf (now (b .entry))))) ⌝ }
+    requires { T (lawful b.now) }
+    ensures { result ≡ leb book_room (total (known (book_of b.now))) }
 {
     let s = known_of(b);
     book_room() <= sum(&s)
@@ -86,12 +68,12 @@ fn is_spent(b: &[u64]) -> bool
 
 // The row of the record that is made of body w.
 fn new_row(b: &[u64], w: u64, label: Parts) -> [u64; ROW]
-    requires { ⌜ Held (now b) ⌝ }
-    requires { ⌜ (bookOf (now b)) .me < (bookOf (now b)) .screens ⌝ }
-    requires { ⌜ part (known (bookOf (now b))) ((bookOf (now b)) .me) < word ⌝ }
-    requires { ⌜ T (bodyFits w) ⌝ }
-    ensures { λ r. ⌜ (recordAt r ≡ newRecord (bookOf (now (b .entry))) (bodyOf w) (listOf label))
-        × (length r ≡ rowLong) ⌝ }
+    requires held { Held b.now }
+    requires b_bound { (book_of b.now).me < (book_of b.now).screens }
+    requires b_bound_2 { part (known (book_of b.now)) (book_of b.now).me < word }
+    requires t { T (body_fits w) }
+    ensures { (record_at result ≡ new_record (book_of b.now) (body_of w) (list_of label))
+        × (length result ≡ row_long) }
 {
     let i = screen_of(b);
     let s = known_of(b);
@@ -100,11 +82,11 @@ fn new_row(b: &[u64], w: u64, label: Parts) -> [u64; ROW]
 
 // The record that is made of body w put into the book, and the book put in order. Gives the record's stamp.
 fn enter(b: &mut [u64], w: u64, label: Parts) -> Parts
-    requires { ⌜ Held (now b) ⌝ }
-    requires { ⌜ T (bodyFits w) ⌝ }
-    requires { ⌜ TakeDone (bookOf (now b)) (bodyOf w) (listOf label) ⌝ }
-    ensures { λ _. ⌜ now (b .exit) ≡ wordsOf (takeBook (bookOf (now (b .entry))) (bodyOf w) (listOf label)) ⌝ }
-    ensures { λ r. ⌜ listOf r ≡ stampOf (newRecord (bookOf (now (b .entry))) (bodyOf w) (listOf label)) ⌝ }
+    requires held { Held b.old }
+    requires t { T (body_fits w) }
+    requires take_done { TakeDone (book_of b.old) (body_of w) (list_of label) }
+    ensures b_after { b.new ≡ words_of (take_book (book_of b.old) (body_of w) (list_of label)) }
+    ensures result_value { list_of result ≡ stamp_of (new_record (book_of b.old) (body_of w) (list_of label)) }
 {
     let before = ready_of(b);
     let row = new_row(b, w, label);
@@ -116,10 +98,10 @@ fn enter(b: &mut [u64], w: u64, label: Parts) -> Parts
 
 // What stops a tap; with nothing, the tap and its label. No word changes.
 pub fn stop_tap(b: &[u64], tap: Tap, label: Parts) -> TapStop
-    requires { ⌜ T (lawful (now b)) ⌝ }
-    requires { ⌜ T (tapFits tap) ⌝ }
-    requires { ⌜ T (stampFits ((bookOf (now b)) .screens) (listOf label)) ⌝ }
-    ensures { λ r. ⌜ StopsTap (bookOf (now (b .entry))) tap label r ⌝ }
+    requires t { T (lawful b.now) }
+    requires t_2 { T (tap_fits tap) }
+    requires t_3 { T (stamp_fits (book_of b.now).screens (list_of label)) }
+    ensures { StopsTap (book_of b.now) tap label result }
 {
     if label_unknown(b, label) {
         return TapStop::Stopped(Reply::Refused(UNKNOWN_LABEL));
@@ -144,9 +126,9 @@ pub fn stop_tap(b: &[u64], tap: Tap, label: Parts) -> TapStop
 
 // A tap that nothing stops, with its label, taken.
 pub fn take_tap(b: &mut [u64], tap: Tap, label: Parts) -> Reply
-    requires { ⌜ T (lawful (now b)) ⌝ }
-    requires { ⌜ firstOf (tapStops (bookOf (now b)) tap (listOf label)) ≡ none ⌝ }
-    ensures { λ r. ⌜ Promise (lentOf (tapStep (bookOf (now (b .entry))) tap (listOf label))) r (now (b .exit)) ⌝ }
+    requires t { T (lawful b.old) }
+    requires label_value { first_of (tap_stops (book_of b.old) tap (list_of label)) ≡ none }
+    ensures { Promise (lent_of (tap_step (book_of b.old) tap (list_of label))) result b.new }
 {
     let w = pack(tap);
     Reply::Taken(enter(b, w, label))

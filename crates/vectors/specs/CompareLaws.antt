@@ -1,25 +1,25 @@
 -- Laws of comparing. Assumes nothing.
---     alike-more, alike-off, alike-end    one place, and an end, of a comparison from the front
---     alike-le                            no more is the same than is said, and than is expected
---     to-end                              the part of a list from a place to its end
---     compared-less, compared-all         what a count of the same bytes comes to
+--     alike-more, alike-off, alike_end    one place, and an end, of a comparison from the front
+--     alike_le                            no more is the same than is said, and than is expected
+--     to_end                              the part of a list from a place to its end
+--     compared_less, compared-all         what a count of the same bytes comes to
 --     compared-none                       saying nothing is always right
---     compared-append                     what is said in two pieces is compared piece by piece
+--     compared_append                     what is said in two pieces is compared piece by piece
 --     compared-within                     what is the same lies within what is expected
 --     same-equal, equal-same              the outcome is "the same" exactly where the two are equal
-use Prim.Native.Nat.{ℕ, suc, _+_, _-_, _≤_, _<_}
+use Rattle.std.specs.Prelude.{ℕ, suc, ◌+◌, ◌-◌, ◌≤◌, ◌<◌, Bool, List, [], ◌∷◌, ◌++◌, eqb, take, drop, get_or}
 use native.Mathlib.Omega.{arith}
-use mathlib.Core.Path.{_≡_, refl, ap, ap₂, _∙_}
-use mathlib.Core.Bool.{Bool, true, false, cond}
-use mathlib.Core.List.{List, [], _∷_, _++_}
-use borrow.Author.Tests.{ltb-true, ltb-false, lt-ltb, le-ltb, eq-eqb, ne-eqb, eqb-true}
-use lib.Dec.{eqb, ltb}
-use lib.ListN.{length, take, drop, getD, length-append, length-drop, drop-of-length-le}
-use lib.Seq.{drop-drop, take-all}
-use Rattle·lists.specs.Scan.{rest}
-use Rattle·vectors·specs.specs.Compare.{alike, comparedAt, outcomeOf, endedBy}
-use Rattle·vectors·specs.specs.declared.compare.Outcome.{Outcome}
-use Rattle·vectors·specs.specs.declared.compare.Outcome.the-variants.{Same, Differs}
+use Rattle.std.proofs.Math.Path.{◌≡◌, refl}
+use Rattle.std.proofs.Common.{ap, ap₂, ◌∙◌, length-drop, drop_of_length-le, take_all}
+use Rattle.std.proofs.Math.Bool.{true, false, cond}
+use borrow.Author.Tests.{ltb-true, ltb-false, lt-ltb, le-ltb, eq-eqb, ne_eqb, eqb-true}
+use Rattle.std.proofs.Math.Dec.{ltb}
+use Rattle.std.proofs.Math.ListN.{length, length-append}
+use Rattle.std.proofs.Math.Seq.{drop-drop}
+use Rattle.lists.specs.Scan.{rest}
+use Rattle.vectors.specs.Compare.{alike, compared_at, outcome_of, ended_by}
+use Rattle.vectors.specs.declared.compare.Outcome.{Outcome}
+use Rattle.vectors.specs.declared.compare.Outcome.TheVariants.{Same, Differs}
 
 alike-none : (said : List ℕ) → alike said [] ≡ 0
 unfolding alike
@@ -27,28 +27,28 @@ alike-none [] = refl
 alike-none (x ∷ said) = refl
 
 module _ (said expected : List ℕ) (i : ℕ) where
-  pub alike-more : i < length said → i < length expected → getD said i 0 ≡ getD expected i 0
+  pub alike-more : i < length said → i < length expected → get_or said i 0 ≡ get_or expected i 0
       → alike (drop i said) (drop i expected) ≡ suc (alike (drop (i + 1) said) (drop (i + 1) expected))
   unfolding alike
-  alike-more h k e = rw (rest said i h, rest expected i k, eq-eqb (getD said i 0) (getD expected i 0) e)
+  alike-more h k e = rw (rest said i h, rest expected i k, eq-eqb (get_or said i 0) (get_or expected i 0) e)
 
-  pub alike-off : i < length said → i < length expected → (getD said i 0 ≡ getD expected i 0 → ⊥)
+  pub alike-off : i < length said → i < length expected → (get_or said i 0 ≡ get_or expected i 0 → ⊥)
       → alike (drop i said) (drop i expected) ≡ 0
   unfolding alike
-  alike-off h k e = rw (rest said i h, rest expected i k, ne-eqb (getD said i 0) (getD expected i 0) e)
+  alike-off h k e = rw (rest said i h, rest expected i k, ne_eqb (get_or said i 0) (get_or expected i 0) e)
 
-  pub alike-end : length expected ≤ i → alike (drop i said) (drop i expected) ≡ 0
-  alike-end h = rw (drop-of-length-le expected h) (alike-none (drop i said))
+  pub alike_end : length expected ≤ i → alike (drop i said) (drop i expected) ≡ 0
+  alike_end h = rw (drop_of_length-le expected h) (alike-none (drop i said))
 
-  pub alike-all : length said ≤ i → alike (drop i said) (drop i expected) ≡ 0
+  pub alike_all : length said ≤ i → alike (drop i said) (drop i expected) ≡ 0
   unfolding alike
-  alike-all h = rw (drop-of-length-le said h)
+  alike_all h = rw (drop_of_length-le said h)
 
-pub alike-le : (said expected : List ℕ) → (alike said expected ≤ length said) × (alike said expected ≤ length expected)
+pub alike_le : (said expected : List ℕ) → (alike said expected ≤ length said) × (alike said expected ≤ length expected)
 unfolding alike
-alike-le [] expected = (omega arith, omega arith)
-alike-le (x ∷ said) [] = (omega arith, omega arith)
-alike-le (x ∷ said) (y ∷ expected) = go (eqb x y) (alike-le said expected)
+alike_le [] expected = (omega arith, omega arith)
+alike_le (x ∷ said) [] = (omega arith, omega arith)
+alike_le (x ∷ said) (y ∷ expected) = go (eqb x y) (alike_le said expected)
   where
     go : (c : Bool) → (alike said expected ≤ length said) × (alike said expected ≤ length expected)
         → (cond c (suc (alike said expected)) 0 ≤ suc (length said))
@@ -56,31 +56,31 @@ alike-le (x ∷ said) (y ∷ expected) = go (eqb x y) (alike-le said expected)
     go true r = (omega arith, omega arith)
     go false r = (omega arith, omega arith)
 
-pub to-end : (at : ℕ) (e : List ℕ) → take (length e - at) (drop at e) ≡ drop at e
-to-end at e = take-all (length e - at) (drop at e) (omega (arith, length-drop at e))
+pub to_end : (at : ℕ) (e : List ℕ) → take (length e - at) (drop at e) ≡ drop at e
+to_end at e = take_all (length e - at) (drop at e) (omega (arith, length-drop at e))
 
 -- a count of what is the same
 module _ (at : ℕ) (said e : List ℕ) (same : ℕ) (q : same ≡ alike said (take (length e - at) (drop at e))) where
-  same-is : same ≡ alike said (drop at e)
-  same-is = q ∙ ap (alike said) (to-end at e)
+  same_is : same ≡ alike said (drop at e)
+  same_is = q ∙ ap (alike said) (to_end at e)
 
   pub counted-within : same ≤ length e - at
-  counted-within = omega (arith, same-is, alike-le said (drop at e) .1, length-drop at e)
+  counted-within = omega (arith, same_is, (alike_le said (drop at e)).1, length-drop at e)
 
-  pub compared-less : same < length said → Differs (at + same) ≡ comparedAt at said e
-  unfolding comparedAt
-  compared-less h = rw (← same-is, lt-ltb same (length said) h)
+  pub compared_less : same < length said → Differs (at + same) ≡ compared_at at said e
+  unfolding compared_at
+  compared_less h = rw (← same_is, lt-ltb same (length said) h)
 
-  pub compared-all : length said ≤ same → Same (at + same) ≡ comparedAt at said e
-  unfolding comparedAt
-  compared-all h = rw (← same-is, le-ltb same (length said) h)
+  pub compared-all : length said ≤ same → Same (at + same) ≡ compared_at at said e
+  unfolding compared_at
+  compared-all h = rw (← same_is, le-ltb same (length said) h)
 
 -- two pieces: the second counts where the first is wholly there
-all-append : (r s e : List ℕ) → alike r e ≡ length r → alike (r ++ s) e ≡ length r + alike s (drop (length r) e)
+all_append : (r s e : List ℕ) → alike r e ≡ length r → alike (r ++ s) e ≡ length r + alike s (drop (length r) e)
 unfolding alike
-all-append [] s e h = omega arith
-all-append (x ∷ r) s [] h = absurd (omega arith)
-all-append (x ∷ r) s (y ∷ e) h = go (λ k. all-append r s e k) (eqb x y) h
+all_append [] s e h = omega arith
+all_append (x ∷ r) s [] h = absurd (omega arith)
+all_append (x ∷ r) s (y ∷ e) h = go (λ k. all_append r s e k) (eqb x y) h
   where
     go : (alike r e ≡ length r → alike (r ++ s) e ≡ length r + alike s (drop (length r) e)) → (c : Bool)
         → cond c (suc (alike r e)) 0 ≡ suc (length r)
@@ -88,11 +88,11 @@ all-append (x ∷ r) s (y ∷ e) h = go (λ k. all-append r s e k) (eqb x y) h
     go more true k = omega (arith, more (omega arith))
     go more false k = absurd (omega arith)
 
-less-append : (r s e : List ℕ) → alike r e < length r → alike (r ++ s) e ≡ alike r e
+less_append : (r s e : List ℕ) → alike r e < length r → alike (r ++ s) e ≡ alike r e
 unfolding alike
-less-append [] s e h = absurd (omega arith)
-less-append (x ∷ r) s [] h = refl
-less-append (x ∷ r) s (y ∷ e) h = go (λ k. less-append r s e k) (eqb x y) h
+less_append [] s e h = absurd (omega arith)
+less_append (x ∷ r) s [] h = refl
+less_append (x ∷ r) s (y ∷ e) h = go (λ k. less_append r s e k) (eqb x y) h
   where
     go : (alike r e < length r → alike (r ++ s) e ≡ alike r e) → (c : Bool)
         → cond c (suc (alike r e)) 0 < suc (length r) → cond c (suc (alike (r ++ s) e)) 0 ≡ cond c (suc (alike r e)) 0
@@ -100,14 +100,14 @@ less-append (x ∷ r) s (y ∷ e) h = go (λ k. less-append r s e k) (eqb x y) h
     go more false k = refl
 
 -- saying nothing is always right
-pub compared-none : (at : ℕ) (e : List ℕ) → comparedAt at [] e ≡ Same at
-unfolding comparedAt alike
+pub compared-none : (at : ℕ) (e : List ℕ) → compared_at at [] e ≡ Same at
+unfolding compared_at alike
 compared-none at e = let z : at + 0 ≡ at = omega arith in rw z
 
 -- goes on from where the first piece ended
-abbrev pub thenAt : Outcome → List ℕ → List ℕ → Outcome
-thenAt (Same at) said expected = comparedAt at said expected
-thenAt (Differs at) said expected = Differs at
+abbrev pub then_at : Outcome → List ℕ → List ℕ → Outcome
+then_at (Same at) said expected = compared_at at said expected
+then_at (Differs at) said expected = Differs at
 
 further : (n same said at : ℕ)
     → cond (ltb (n + same) (n + said)) (Differs (at + (n + same))) (Same (at + (n + same)))
@@ -124,32 +124,32 @@ further n same said at = go (ltb same said) refl
     go false e = rw (le-ltb (n + same) (n + said) (omega (arith, ltb-false same said e)), place)
 
 module _ (at : ℕ) (r s e : List ℕ) where
-  pub compared-append : comparedAt at (r ++ s) e ≡ thenAt (comparedAt at r e) s e
-  unfolding comparedAt
-  compared-append = go (ltb (alike r (drop at e)) (length r)) refl
+  pub compared_append : compared_at at (r ++ s) e ≡ then_at (compared_at at r e) s e
+  unfolding compared_at
+  compared_append = go (ltb (alike r (drop at e)) (length r)) refl
     where
       go : (c : Bool) → ltb (alike r (drop at e)) (length r) ≡ c
           → cond (ltb (alike (r ++ s) (drop at e)) (length (r ++ s)))
           (Differs (at + alike (r ++ s) (drop at e))) (Same (at + alike (r ++ s) (drop at e)))
-          ≡ thenAt (cond c (Differs (at + alike r (drop at e))) (Same (at + alike r (drop at e)))) s e
+          ≡ then_at (cond c (Differs (at + alike r (drop at e))) (Same (at + alike r (drop at e)))) s e
       go true h =
           let l = ltb-true (alike r (drop at e)) (length r) h in
           let less = lt-ltb (alike r (drop at e)) (length r + length s) (omega arith) in
-          rw (less-append r s (drop at e) l, length-append r s, less)
+          rw (less_append r s (drop at e) l, length-append r s, less)
       go false h =
           let l = ltb-false (alike r (drop at e)) (length r) h in
-          let all : alike r (drop at e) ≡ length r = omega (arith, alike-le r (drop at e) .0) in
-          rw (all-append r s (drop at e) all, length-append r s, all, ← drop-drop (length r) at e)
+          let all : alike r (drop at e) ≡ length r = omega (arith, (alike_le r (drop at e)).0) in
+          rw (all_append r s (drop at e) all, length-append r s, all, ← drop-drop (length r) at e)
           (further (length r) (alike s (drop (length r) (drop at e))) (length s) at)
 
-pub compared-within : (at p : ℕ) (r e : List ℕ) → at ≤ length e → comparedAt at r e ≡ Same p → p ≤ length e
-unfolding comparedAt
+pub compared-within : (at p : ℕ) (r e : List ℕ) → at ≤ length e → compared_at at r e ≡ Same p → p ≤ length e
+unfolding compared_at
 compared-within at p r e h = go (ltb (alike r (drop at e)) (length r))
   where
     go : (c : Bool) → cond c (Differs (at + alike r (drop at e))) (Same (at + alike r (drop at e))) ≡ Same p
         → p ≤ length e
-    go true q = let z : _≡_ {A = ℕ} 0 1 = cc in absurd (omega arith)
-    go false q = let z : at + alike r (drop at e) ≡ p = cc in omega (arith, alike-le r (drop at e) .1, length-drop at e)
+    go true q = let z : ◌≡◌ {A = ℕ} 0 1 = cc in absurd (omega arith)
+    go false q = let z : at + alike r (drop at e) ≡ p = cc in omega (arith, (alike_le r (drop at e)).1, length-drop at e)
 
 -- the whole
 alike-equal : (said e : List ℕ) → length said ≤ alike said e → length e ≤ length said → said ≡ e
@@ -161,30 +161,30 @@ alike-equal (x ∷ said) (y ∷ e) h k = go (λ l. alike-equal said e l (omega a
   where
     go : (length said ≤ alike said e → said ≡ e) → (c : Bool) → eqb x y ≡ c
         → suc (length said) ≤ cond c (suc (alike said e)) 0 → x ∷ said ≡ y ∷ e
-    go more true q l = ap₂ _∷_ (eqb-true x y q) (more (omega arith))
+    go more true q l = ap₂ ◌∷◌ (eqb-true x y q) (more (omega arith))
     go more false q l = absurd (omega arith)
 
-alike-self : (said : List ℕ) → alike said said ≡ length said
+alike_self : (said : List ℕ) → alike said said ≡ length said
 unfolding alike
-alike-self [] = refl
-alike-self (x ∷ said) = rw (eq-eqb x x refl, alike-self said)
+alike_self [] = refl
+alike_self (x ∷ said) = rw (eq-eqb x x refl, alike_self said)
 
 module _ (said e : List ℕ) where
-  pub same-equal : (p : ℕ) → outcomeOf said e ≡ Same p → said ≡ e
-  unfolding comparedAt
+  pub same-equal : (p : ℕ) → outcome_of said e ≡ Same p → said ≡ e
+  unfolding compared_at
   same-equal p = go (ltb (alike said e) (length said)) refl (ltb (0 + alike said e) (length e)) refl
     where
       go : (c : Bool) → ltb (alike said e) (length said) ≡ c → (d : Bool) → ltb (0 + alike said e) (length e) ≡ d
-          → endedBy (cond c (Differs (0 + alike said e)) (Same (0 + alike said e))) e ≡ Same p → said ≡ e
-      go true h d k q = let z : _≡_ {A = ℕ} 0 1 = cc in absurd (omega arith)
-      go false h true k q = let r = rw k at q in let z : _≡_ {A = ℕ} 0 1 = cc in absurd (omega arith)
+          → ended_by (cond c (Differs (0 + alike said e)) (Same (0 + alike said e))) e ≡ Same p → said ≡ e
+      go true h d k q = let z : ◌≡◌ {A = ℕ} 0 1 = cc in absurd (omega arith)
+      go false h true k q = let r = rw k at q in let z : ◌≡◌ {A = ℕ} 0 1 = cc in absurd (omega arith)
       go false h false k q =
           let l = ltb-false (0 + alike said e) (length e) k in
-          alike-equal said e (ltb-false (alike said e) (length said) h) (omega (arith, l, alike-le said e .0))
+          alike-equal said e (ltb-false (alike said e) (length said) h) (omega (arith, l, (alike_le said e).0))
 
-  pub equal-same : said ≡ e → outcomeOf said e ≡ Same (length said)
-  unfolding comparedAt
+  pub equal-same : said ≡ e → outcome_of said e ≡ Same (length said)
+  unfolding compared_at
   equal-same q =
       let none : 0 + length said ≡ length said = omega arith in
       let all = le-ltb (length said) (length said) (omega arith) in
-      rw (← q, alike-self said, none, all, all)
+      rw (← q, alike_self said, none, all, all)

@@ -1,10 +1,9 @@
 // What is said, compared with what is expected: up to which place they are the same.
-ghost use mathlib.Core.Path.{_≡_};
-ghost use Prim.Native.Nat.{_≤_};
-ghost use lib.ListN.{length};
-ghost use Rattle·vectors·specs.specs.Compare.{alike, comparedAt, endedBy};
+ghost use Rattle.std.specs.Prelude.{◌≡◌, ◌≤◌, length};
+ghost use Rattle.vectors.specs.Compare.{alike, compared_at, ended_by};
 
 // The same up to this place, or different at it: a byte differs there, or one of the two ends there.
+#[derive(Drop)]
 pub enum Outcome {
     Same(usize),
     Differs(usize),
@@ -12,7 +11,7 @@ pub enum Outcome {
 
 // How many bytes at the front of both are the same.
 fn count_alike(said: &[u8], expected: &[u8]) -> usize
-    ensures { λ r. ⌜ r ≡ alike (now (said .entry)) (now (expected .entry)) ⌝ }
+    ensures { result ≡ alike said.now expected.now }
 {
     let mut i = 0;
     while i < said.len() {
@@ -29,8 +28,8 @@ fn count_alike(said: &[u8], expected: &[u8]) -> usize
 
 // Whether all that is said stands at a place of what is expected.
 pub fn compare_at(said: &[u8], expected: &[u8], at: usize) -> Outcome
-    requires { ⌜ at ≤ length (now expected) ⌝ }
-    ensures { λ r. ⌜ r ≡ comparedAt at (now (said .entry)) (now (expected .entry)) ⌝ }
+    requires { at ≤ length expected.now }
+    ensures { result ≡ compared_at at said.now expected.now }
 {
     let same = count_alike(said, &expected[at..]);
     if same < said.len() {
@@ -41,7 +40,7 @@ pub fn compare_at(said: &[u8], expected: &[u8], at: usize) -> Outcome
 
 // Nothing more is said: whether more is expected.
 pub fn end_at(outcome: Outcome, expected: &[u8]) -> Outcome
-    ensures { λ r. ⌜ r ≡ endedBy outcome (now (expected .entry)) ⌝ }
+    ensures { result ≡ ended_by outcome expected.now }
 {
     match outcome {
         Outcome::Same(at) => {

@@ -1,23 +1,25 @@
 // Where the fields of a vector stand in the file of vectors.
+ghost use Rattle.std.specs.Prelude.{◌≡◌, ◌≤◌, length};
+ghost use Rattle.vectors.specs.File.{field_at, entry_at};
+
 use numbers::number_at;
-ghost use mathlib.Core.Path.{_≡_};
-ghost use Prim.Native.Nat.{_≤_};
-ghost use lib.ListN.{length};
-ghost use Rattle·vectors·specs.specs.File.{fieldAt, entryAt};
 
 // The bytes from the first place up to the second.
+#[derive(Drop)]
 pub struct Part {
     pub start: usize,
     pub end: usize,
 }
 
 // A field's bytes, or that the file ends inside it or the field is too long.
+#[derive(Drop)]
 enum Field {
     Stands(Part),
     Broken,
 }
 
 // A vector's fields; or the byte 0 that ends the file; or that there is neither.
+#[derive(Drop)]
 pub enum NextVector {
     Vector {
         name: Part,
@@ -41,8 +43,8 @@ const LONGEST_FIELD: u64 = 60000;
 
 // The field whose length is told by so many bytes at a place.
 fn field_at(file: &[u8], at: usize, width: usize) -> Field
-    requires { ⌜ (at ≤ length (now file)) × (width ≤ 8) ⌝ }
-    ensures { λ r. ⌜ r ≡ fieldAt at width (now (file .entry)) ⌝ }
+    requires { (at ≤ length file.now) × (width ≤ 8) }
+    ensures { result ≡ field_at at width file.now }
 {
     if file.len() - at < width {
         return Field::Broken;
@@ -61,8 +63,8 @@ fn field_at(file: &[u8], at: usize, width: usize) -> Field
 
 // The vector, or the end, that stands at a place.
 pub fn entry_at(file: &[u8], at: usize) -> NextVector
-    requires { ⌜ at ≤ length (now file) ⌝ }
-    ensures { λ r. ⌜ r ≡ entryAt at (now (file .entry)) ⌝ }
+    requires { at ≤ length file.now }
+    ensures { result ≡ entry_at at file.now }
 {
     let first = field_at(file, at, NAME_WIDTH);
     let Field::Stands(name) = first else {

@@ -1,24 +1,20 @@
 -- The table of kinds: each kind's number, the widths of its fields, and its field rules. Assumes nothing.
-use Prim.Native.Nat.{ℕ, _+_, _*_, _/_}
-use mathlib.Core.Bool.{Bool, true, false, _&&_, _||_, cond}
-use mathlib.Core.List.{List, [], _∷_, _++_}
-use lib.Dec.{eqb, leb, ltb}
-use lib.ListN.{length, getD, replicate}
-use Rattle·limits.specs.KindNumbers.{headNumber, recordNumber, tapNumber, questionNumber, takenNumber, alreadyNumber}
-use Rattle·limits.specs.KindNumbers.{verdictNumber, waitNumber, refusalNumber, gossipTakenNumber, openNumber}
-use Rattle·limits.specs.KindNumbers.{sendNumber}
-use Rattle·limits.specs.Limits.{parts, promptCount, logRoom}
-use Rattle·stamp.specs.Stamp.{Stamp, total, stampFits}
-use Rattle·stamp.specs.Parts.{partsAt, listOf}
-use Rattle·tally.specs.declared.Tap.{Tap}
-use Rattle·tally.specs.Body.{bodyFits}
-use Rattle·tally.specs.Tap.{tapFits, wordOf}
-use Rattle·ledger.specs.Record.{Record, isKnown, recordFits}
-use Rattle·ledger.specs.Message.{inRange}
-use Rattle·wire·specs.specs.declared.Said.{Said}
-use Rattle·wire·specs.specs.declared.Said.the-variants as said
-use Rattle·wire·specs.specs.declared.BodyLength.{BodyLength}
-use Rattle·wire·specs.specs.declared.BodyLength.the-variants.{Long, Bad}
+use Rattle.std.specs.Prelude.{ℕ, ◌+◌, ◌*◌, ◌/◌, Bool, true, false, ◌&&◌, ◌||◌, cond, List, [], ◌∷◌, ◌++◌, eqb, leb, ltb, length, get_or, replicate}
+use Rattle.limits.specs.KindNumbers.{head_number, record_number, tap_number, question_number, taken_number, already_number}
+use Rattle.limits.specs.KindNumbers.{verdict_number, wait_number, refusal_number, gossip_taken_number, open_number}
+use Rattle.limits.specs.KindNumbers.{send_number}
+use Rattle.limits.specs.Limits.{parts, prompt_count, log_room}
+use Rattle.stamp.specs.Stamp.{Stamp, total, stamp_fits}
+use Rattle.stamp.specs.Parts.{parts_at, list_of}
+use Rattle.tally.specs.declared.Tap.{Tap}
+use Rattle.tally.specs.Body.{body_fits}
+use Rattle.tally.specs.Tap.{tap_fits, word_of}
+use Rattle.ledger.specs.Record.{Record, is_known, record_fits}
+use Rattle.ledger.specs.Message.{in_range}
+use Rattle.wire.specs.declared.Said.{Said}
+use Rattle.wire.specs.declared.Said.TheVariants as said
+use Rattle.wire.specs.declared.BodyLength.{BodyLength}
+use Rattle.wire.specs.declared.BodyLength.TheVariants.{Long, Bad}
 
 -- A kind of message. Its line is the kind and then the values of its fields: `rules` judges a line, `said` is what it
 -- says.
@@ -30,229 +26,229 @@ pub record Kind : Type 0 where
 
 -- the widths of a line, and a message's length: one byte of kind, then the body
 abbrev pub widths : Kind → List ℕ
-widths k = 1 ∷ k .body
+widths k = 1 ∷ k.body
 
-abbrev pub sizeOf : Kind → ℕ
-sizeOf k = total (widths k)
+abbrev pub size_of : Kind → ℕ
+size_of k = total (widths k)
 
 -- the bytes of a stamp's part, of a bit for each part, and of a tap's five fields
-abbrev pub partWidth : ℕ
-partWidth = 4
+abbrev pub part_width : ℕ
+part_width = 4
 
-abbrev pub bitsWidth : ℕ
-bitsWidth = (parts + 7) / 8
+abbrev pub bits_width : ℕ
+bits_width = (parts + 7) / 8
 
-abbrev pub stampBody : List ℕ
-stampBody = replicate parts partWidth
+abbrev pub stamp_body : List ℕ
+stamp_body = replicate parts part_width
 
-abbrev pub tapBody : List ℕ
-tapBody = 1 ∷ 4 ∷ 1 ∷ 2 ∷ 1 ∷ []
+abbrev pub tap_body : List ℕ
+tap_body = 1 ∷ 4 ∷ 1 ∷ 2 ∷ 1 ∷ []
 
 -- the stamp and the tap that stand from a place of a line on
-abbrev pub stampAt : ℕ → List ℕ → Stamp
-stampAt a line = listOf (partsAt a line)
+abbrev pub stamp_at : ℕ → List ℕ → Stamp
+stamp_at a line = list_of (parts_at a line)
 
-abbrev pub tapAt : ℕ → List ℕ → Tap
-tapAt a line = record {
-  front = getD line a 0;
-  serial = getD line (a + 1) 0;
-  prompt = getD line (a + 2) 0;
-  showing = getD line (a + 3) 0;
-  answer = getD line (a + 4) 0;
+abbrev pub tap_at : ℕ → List ℕ → Tap
+tap_at a line = record {
+  front = get_or line a 0;
+  serial = get_or line (a + 1) 0;
+  prompt = get_or line (a + 2) 0;
+  showing = get_or line (a + 3) 0;
+  answer = get_or line (a + 4) 0;
 }
 
 -- the kinds' bodies: the widths of their fields
-abbrev pub headBody : List ℕ
-headBody = 1 ∷ 1 ∷ 2 ∷ stampBody
+abbrev pub head_body : List ℕ
+head_body = 1 ∷ 1 ∷ 2 ∷ stamp_body
 
-abbrev pub recordBody : List ℕ
-recordBody = 1 ∷ 4 ∷ stampBody ++ tapBody
+abbrev pub record_body : List ℕ
+record_body = 1 ∷ 4 ∷ stamp_body ++ tap_body
 
-abbrev pub tapMessageBody : List ℕ
-tapMessageBody = tapBody ++ stampBody
+abbrev pub tap_message_body : List ℕ
+tap_message_body = tap_body ++ stamp_body
 
-abbrev pub questionBody : List ℕ
-questionBody = 1 ∷ stampBody
+abbrev pub question_body : List ℕ
+question_body = 1 ∷ stamp_body
 
-abbrev pub takenBody : List ℕ
-takenBody = stampBody
+abbrev pub taken_body : List ℕ
+taken_body = stamp_body
 
-abbrev pub alreadyBody : List ℕ
-alreadyBody = stampBody
+abbrev pub already_body : List ℕ
+already_body = stamp_body
 
-abbrev pub verdictBody : List ℕ
-verdictBody = 1 ∷ 2 ∷ 4 ∷ 4 ∷ stampBody
+abbrev pub verdict_body : List ℕ
+verdict_body = 1 ∷ 2 ∷ 4 ∷ 4 ∷ stamp_body
 
-abbrev pub waitBody : List ℕ
-waitBody = bitsWidth ∷ []
+abbrev pub wait_body : List ℕ
+wait_body = bits_width ∷ []
 
-abbrev pub refusalBody : List ℕ
-refusalBody = 1 ∷ []
+abbrev pub refusal_body : List ℕ
+refusal_body = 1 ∷ []
 
-abbrev pub gossipTakenBody : List ℕ
-gossipTakenBody = 2 ∷ 2 ∷ []
+abbrev pub gossip_taken_body : List ℕ
+gossip_taken_body = 2 ∷ 2 ∷ []
 
-abbrev pub openBody : List ℕ
-openBody = 1 ∷ 1 ∷ []
+abbrev pub open_body : List ℕ
+open_body = 1 ∷ 1 ∷ []
 
-abbrev pub sendBody : List ℕ
-sendBody = []
+abbrev pub send_body : List ℕ
+send_body = []
 
 -- N 2..8, sender below N, at most 256 records, stamp parts past N zero
-unfoldable pub headKind : Kind
-headKind =
+unfoldable pub head_kind : Kind
+head_kind =
     record {
-      number = headNumber;
-      body = headBody;
-      rules = λ l. inRange (getD l 1 0) (getD l 2 0)
-          && (leb (getD l 3 0) logRoom && stampFits (getD l 2 0) (stampAt 4 l));
-      said = λ l. said.Head (getD l 1 0) (getD l 2 0) (getD l 3 0) (partsAt 4 l);
+      number = head_number;
+      body = head_body;
+      rules = λ l. in_range (get_or l 1 0) (get_or l 2 0)
+          && (leb (get_or l 3 0) log_room && stamp_fits (get_or l 2 0) (stamp_at 4 l));
+      said = λ l. said.Head (get_or l 1 0) (get_or l 2 0) (get_or l 3 0) (parts_at 4 l);
     }
 
 -- the record that a line of kind 2 holds
-abbrev pub recordIn : List ℕ → Record
-recordIn l = record {
-  origin = getD l 1 0;
-  number = getD l 2 0;
-  label = stampAt 3 l;
-  body = wordOf (tapAt (3 + parts) l);
+abbrev pub record_in : List ℕ → Record
+record_in l = record {
+  origin = get_or l 1 0;
+  number = get_or l 2 0;
+  label = stamp_at 3 l;
+  body = word_of (tap_at (3 + parts) l);
 }
 
 -- tap fields in range; origin below N, number at least 1, the label's part for the origin below the number, label parts
 -- past N zero; number at most m's part for the origin
-unfoldable pub recordKind : ℕ → Stamp → Kind
-recordKind n m =
+unfoldable pub record_kind : ℕ → Stamp → Kind
+record_kind n m =
     record {
-      number = recordNumber;
-      body = recordBody;
-      rules = λ l. tapFits (tapAt (3 + parts) l) && (recordFits bodyFits n (recordIn l) && isKnown m (recordIn l));
-      said = λ l. said.Record (getD l 1 0) (getD l 2 0) (partsAt 3 l) (tapAt (3 + parts) l);
+      number = record_number;
+      body = record_body;
+      rules = λ l. tap_fits (tap_at (3 + parts) l) && (record_fits body_fits n (record_in l) && is_known m (record_in l));
+      said = λ l. said.Record (get_or l 1 0) (get_or l 2 0) (parts_at 3 l) (tap_at (3 + parts) l);
     }
 
 -- tap fields in range, label parts past the book's N zero (with no book at hand N is the number of parts, and all are
 -- free)
-unfoldable pub tapKind : ℕ → Kind
-tapKind n =
+unfoldable pub tap_kind : ℕ → Kind
+tap_kind n =
     record {
-      number = tapNumber;
-      body = tapMessageBody;
-      rules = λ l. tapFits (tapAt 1 l) && stampFits n (stampAt 6 l);
-      said = λ l. said.Tap (tapAt 1 l) (partsAt 6 l);
+      number = tap_number;
+      body = tap_message_body;
+      rules = λ l. tap_fits (tap_at 1 l) && stamp_fits n (stamp_at 6 l);
+      said = λ l. said.Tap (tap_at 1 l) (parts_at 6 l);
     }
 
-unfoldable pub questionKind : ℕ → Kind
-questionKind n =
+unfoldable pub question_kind : ℕ → Kind
+question_kind n =
     record {
-      number = questionNumber;
-      body = questionBody;
-      rules = λ l. ltb (getD l 1 0) promptCount && stampFits n (stampAt 2 l);
-      said = λ l. said.Question (getD l 1 0) (partsAt 2 l);
+      number = question_number;
+      body = question_body;
+      rules = λ l. ltb (get_or l 1 0) prompt_count && stamp_fits n (stamp_at 2 l);
+      said = λ l. said.Question (get_or l 1 0) (parts_at 2 l);
     }
 
 -- replies: all parts are free
-unfoldable pub takenKind : Kind
-takenKind = record { number = takenNumber; body = takenBody; rules = λ l. true; said = λ l. said.Taken (partsAt 1 l) }
+unfoldable pub taken_kind : Kind
+taken_kind = record { number = taken_number; body = taken_body; rules = λ l. true; said = λ l. said.Taken (parts_at 1 l) }
 
-unfoldable pub alreadyKind : Kind
-alreadyKind = record {
-  number = alreadyNumber;
-  body = alreadyBody;
+unfoldable pub already_kind : Kind
+already_kind = record {
+  number = already_number;
+  body = already_body;
   rules = λ l. true;
-  said = λ l. said.Already (partsAt 1 l);
+  said = λ l. said.Already (parts_at 1 l);
 }
 
 -- Unasked (0), Accepted (1), Declined (2) or Contested (3)
-unfoldable pub verdictKind : Kind
-verdictKind =
+unfoldable pub verdict_kind : Kind
+verdict_kind =
     record {
-      number = verdictNumber;
-      body = verdictBody;
-      rules = λ l. leb (getD l 1 0) 3;
-      said = λ l. said.Verdict (getD l 1 0) (getD l 2 0) (getD l 3 0) (getD l 4 0) (partsAt 5 l);
+      number = verdict_number;
+      body = verdict_body;
+      rules = λ l. leb (get_or l 1 0) 3;
+      said = λ l. said.Verdict (get_or l 1 0) (get_or l 2 0) (get_or l 3 0) (get_or l 4 0) (parts_at 5 l);
     }
 
-unfoldable pub waitKind : Kind
-waitKind = record { number = waitNumber; body = waitBody; rules = λ l. true; said = λ l. said.Wait (getD l 1 0) }
+unfoldable pub wait_kind : Kind
+wait_kind = record { number = wait_number; body = wait_body; rules = λ l. true; said = λ l. said.Wait (get_or l 1 0) }
 
 -- the refusals of the table: ten is not used
-unfoldable pub inTable : ℕ → Bool
-inTable k = leb 1 k && leb k 9 || leb 11 k && leb k 12
+unfoldable pub in_table : ℕ → Bool
+in_table k = leb 1 k && leb k 9 || leb 11 k && leb k 12
 
-unfoldable pub refusalKind : Kind
-refusalKind = record {
-  number = refusalNumber;
-  body = refusalBody;
-  rules = λ l. inTable (getD l 1 0);
-  said = λ l. said.Refusal (getD l 1 0);
+unfoldable pub refusal_kind : Kind
+refusal_kind = record {
+  number = refusal_number;
+  body = refusal_body;
+  rules = λ l. in_table (get_or l 1 0);
+  said = λ l. said.Refusal (get_or l 1 0);
 }
 
-unfoldable pub gossipTakenKind : Kind
-gossipTakenKind = record {
-  number = gossipTakenNumber;
-  body = gossipTakenBody;
+unfoldable pub gossip_taken_kind : Kind
+gossip_taken_kind = record {
+  number = gossip_taken_number;
+  body = gossip_taken_body;
   rules = λ l. true;
-  said = λ l. said.GossipTaken (getD l 1 0) (getD l 2 0);
+  said = λ l. said.GossipTaken (get_or l 1 0) (get_or l 2 0);
 }
 
 -- its fields are judged by refusal 2
-unfoldable pub openKind : Kind
-openKind = record {
-  number = openNumber;
-  body = openBody;
+unfoldable pub open_kind : Kind
+open_kind = record {
+  number = open_number;
+  body = open_body;
   rules = λ l. true;
-  said = λ l. said.Open (getD l 1 0) (getD l 2 0);
+  said = λ l. said.Open (get_or l 1 0) (get_or l 2 0);
 }
 
-unfoldable pub sendKind : Kind
-sendKind = record { number = sendNumber; body = sendBody; rules = λ l. true; said = λ l. said.Send }
+unfoldable pub send_kind : Kind
+send_kind = record { number = send_number; body = send_body; rules = λ l. true; said = λ l. said.Send }
 
 -- the kind fixes the body's length
 abbrev pub lookup : ℕ → List (ℕ × ℕ) → BodyLength
 lookup k [] = Bad 1
-lookup k (l ∷ t) = cond (eqb k (l .0)) (Long (l .1)) (lookup k t)
+lookup k (l ∷ t) = cond (eqb k l.0) (Long l.1) (lookup k t)
 
 abbrev pub bodies : List (ℕ × ℕ)
 bodies =
-    (headNumber, total headBody)
-    ∷ (recordNumber, total recordBody)
-    ∷ (tapNumber, total tapMessageBody)
-    ∷ (questionNumber, total questionBody)
-    ∷ (takenNumber, total takenBody)
-    ∷ (alreadyNumber, total alreadyBody)
-    ∷ (verdictNumber, total verdictBody)
-    ∷ (waitNumber, total waitBody)
-    ∷ (refusalNumber, total refusalBody)
-    ∷ (gossipTakenNumber, total gossipTakenBody)
-    ∷ (openNumber, total openBody)
-    ∷ (sendNumber, total sendBody)
+    (head_number, total head_body)
+    ∷ (record_number, total record_body)
+    ∷ (tap_number, total tap_message_body)
+    ∷ (question_number, total question_body)
+    ∷ (taken_number, total taken_body)
+    ∷ (already_number, total already_body)
+    ∷ (verdict_number, total verdict_body)
+    ∷ (wait_number, total wait_body)
+    ∷ (refusal_number, total refusal_body)
+    ∷ (gossip_taken_number, total gossip_taken_body)
+    ∷ (open_number, total open_body)
+    ∷ (send_number, total send_body)
     ∷ []
 
-unfoldable pub bodyBy : ℕ → BodyLength
-bodyBy k = lookup k bodies
+unfoldable pub body_by : ℕ → BodyLength
+body_by k = lookup k bodies
 
 -- how long a message of the kind is, its byte of kind too; 1 where there is no such kind
-abbrev pub bodyLong : BodyLength → ℕ
-bodyLong (Long n) = n
-bodyLong (Bad r) = 0
+abbrev pub body_long : BodyLength → ℕ
+body_long (Long n) = n
+body_long (Bad r) = 0
 
-abbrev pub messageLong : ℕ → ℕ
-messageLong k = 1 + bodyLong (lookup k bodies)
+abbrev pub message_long : ℕ → ℕ
+message_long k = 1 + body_long (lookup k bodies)
 
 -- lengths with the byte of kind: a gossip's head, a record, the longest message (a head and as many records as a log
 -- holds)
-abbrev pub headLong : ℕ
-headLong = 1 + total headBody
+abbrev pub head_long : ℕ
+head_long = 1 + total head_body
 
-abbrev pub recordLong : ℕ
-recordLong = 1 + total recordBody
+abbrev pub record_long : ℕ
+record_long = 1 + total record_body
 
 abbrev pub longest : ℕ
-longest = headLong + logRoom * recordLong
+longest = head_long + log_room * record_long
 
 -- the bytes are of this kind and of its length
-abbrev pub isLong : BodyLength → ℕ → Bool
-isLong (Long n) long = eqb long (1 + n)
-isLong (Bad r) long = false
+abbrev pub is_long : BodyLength → ℕ → Bool
+is_long (Long n) long = eqb long (1 + n)
+is_long (Bad r) long = false
 
 unfoldable pub shaped : ℕ → List ℕ → Bool
-shaped k bytes = eqb (getD bytes 0 0) k && isLong (bodyBy k) (length bytes)
+shaped k bytes = eqb (get_or bytes 0 0) k && is_long (body_by k) (length bytes)

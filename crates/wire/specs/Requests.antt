@@ -1,42 +1,39 @@
 -- The requests that a screen takes once its book is open: each kind, and how long the longest reply to it is. Assumes
 -- nothing.
-use Prim.Native.Nat.{ℕ, _+_}
-use mathlib.Core.Bool.{Bool, cond}
-use mathlib.Core.List.{List, [], _∷_}
-use lib.Dec.{eqb, ltb}
-use Rattle·stamp.specs.Stamp.{total}
-use Rattle·limits.specs.KindNumbers.{headNumber, tapNumber, questionNumber, sendNumber}
-use Rattle·wire·specs.specs.Kinds.{longest, gossipTakenBody}
-use Rattle·wire·specs.specs.Kinds.{takenBody, verdictBody, waitBody, refusalBody}
+use Rattle.std.specs.Prelude.{ℕ, ◌+◌, Bool, cond, List, [], ◌∷◌, eqb, ltb}
+use Rattle.stamp.specs.Stamp.{total}
+use Rattle.limits.specs.KindNumbers.{head_number, tap_number, question_number, send_number}
+use Rattle.wire.specs.Kinds.{longest, gossip_taken_body}
+use Rattle.wire.specs.Kinds.{taken_body, verdict_body, wait_body, refusal_body}
 
 -- how long replies are: gossip taken; taken, and already; a verdict, the longest reply to a question, and wait; a
 -- refusal
-abbrev pub gossipLong : ℕ
-gossipLong = 1 + total gossipTakenBody
+abbrev pub gossip_long : ℕ
+gossip_long = 1 + total gossip_taken_body
 
-abbrev pub tapLong : ℕ
-tapLong = 1 + total takenBody
+abbrev pub tap_long : ℕ
+tap_long = 1 + total taken_body
 
-abbrev pub questionLong : ℕ
-questionLong = 1 + total verdictBody
+abbrev pub question_long : ℕ
+question_long = 1 + total verdict_body
 
-abbrev pub waitLong : ℕ
-waitLong = 1 + total waitBody
+abbrev pub wait_long : ℕ
+wait_long = 1 + total wait_body
 
-abbrev pub refusalLong : ℕ
-refusalLong = 1 + total refusalBody
+abbrev pub refusal_long : ℕ
+refusal_long = 1 + total refusal_body
 
-abbrev pub requestTable : List (ℕ × ℕ)
-requestTable =
-    (headNumber, gossipLong) ∷ (tapNumber, tapLong) ∷ (questionNumber, questionLong) ∷ (sendNumber, longest) ∷ []
+abbrev pub request_table : List (ℕ × ℕ)
+request_table =
+    (head_number, gossip_long) ∷ (tap_number, tap_long) ∷ (question_number, question_long) ∷ (send_number, longest) ∷ []
 
-abbrev pub roomIn : List (ℕ × ℕ) → ℕ → ℕ
-roomIn [] k = 0
-roomIn (l ∷ t) k = cond (eqb k (l .0)) (l .1) (roomIn t k)
+abbrev pub room_in : List (ℕ × ℕ) → ℕ → ℕ
+room_in [] k = 0
+room_in (l ∷ t) k = cond (eqb k l.0) l.1 (room_in t k)
 
 -- the room that is always enough for the reply to a request of the kind: 0 where the kind is no request's
-unfoldable pub replyRoom : ℕ → ℕ
-replyRoom k = roomIn requestTable k
+unfoldable pub reply_room : ℕ → ℕ
+reply_room k = room_in request_table k
 
-unfoldable pub isRequest : ℕ → Bool
-isRequest k = ltb 0 (replyRoom k)
+unfoldable pub is_request : ℕ → Bool
+is_request k = ltb 0 (reply_room k)

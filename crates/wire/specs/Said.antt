@@ -1,32 +1,31 @@
 -- What a message says: the number of its kind, and its values in order. Assumes nothing.
-use Prim.Native.Nat.{ℕ}
-use mathlib.Core.List.{List, [], _∷_, _++_}
-use Rattle·limits.specs.KindNumbers.{headNumber, recordNumber, tapNumber, questionNumber, takenNumber, alreadyNumber}
-use Rattle·limits.specs.KindNumbers.{verdictNumber, waitNumber, refusalNumber, gossipTakenNumber, openNumber}
-use Rattle·limits.specs.KindNumbers.{sendNumber}
-use Rattle·stamp.specs.Parts.{listOf}
-use Rattle·tally.specs.Tap.{fields}
-use Rattle·wire·specs.specs.declared.Said.{Said}
-use Rattle·wire·specs.specs.declared.Said.the-variants as said
+use Rattle.std.specs.Prelude.{ℕ, List, [], ◌∷◌, ◌++◌}
+use Rattle.limits.specs.KindNumbers.{head_number, record_number, tap_number, question_number, taken_number, already_number}
+use Rattle.limits.specs.KindNumbers.{verdict_number, wait_number, refusal_number, gossip_taken_number, open_number}
+use Rattle.limits.specs.KindNumbers.{send_number}
+use Rattle.stamp.specs.Parts.{list_of}
+use Rattle.tally.specs.Tap.{fields}
+use Rattle.wire.specs.declared.Said.{Said}
+use Rattle.wire.specs.declared.Said.TheVariants as said
 
 -- how many cases there are: one for each kind, and last the one that is no message
-abbrev pub saidCases : ℕ
-saidCases = 13
+abbrev pub said_cases : ℕ
+said_cases = 13
 
 -- the kind's number, then the values of its fields
 abbrev pub figures : Said → List ℕ
-figures (said.Head sender screens count stamp) = headNumber ∷ sender ∷ screens ∷ count ∷ listOf stamp
-figures (said.Record origin number label tap) = recordNumber ∷ origin ∷ number ∷ listOf label ++ fields tap
-figures (said.Tap tap label) = tapNumber ∷ fields tap ++ listOf label
-figures (said.Question prompt label) = questionNumber ∷ prompt ∷ listOf label
-figures (said.Taken stamp) = takenNumber ∷ listOf stamp
-figures (said.Already stamp) = alreadyNumber ∷ listOf stamp
+figures (said.Head sender screens count stamp) = head_number ∷ sender ∷ screens ∷ count ∷ list_of stamp
+figures (said.Record origin number label tap) = record_number ∷ origin ∷ number ∷ list_of label ++ fields tap
+figures (said.Tap tap label) = tap_number ∷ fields tap ++ list_of label
+figures (said.Question prompt label) = question_number ∷ prompt ∷ list_of label
+figures (said.Taken stamp) = taken_number ∷ list_of stamp
+figures (said.Already stamp) = already_number ∷ list_of stamp
 figures (said.Verdict verdict showing accepts declines value) =
-    verdictNumber ∷ verdict ∷ showing ∷ accepts ∷ declines ∷ listOf value
-figures (said.Wait bits) = waitNumber ∷ bits ∷ []
-figures (said.Refusal number) = refusalNumber ∷ number ∷ []
-figures (said.GossipTaken new applied) = gossipTakenNumber ∷ new ∷ applied ∷ []
-figures (said.Open screen screens) = openNumber ∷ screen ∷ screens ∷ []
-figures said.Send = sendNumber ∷ []
+    verdict_number ∷ verdict ∷ showing ∷ accepts ∷ declines ∷ list_of value
+figures (said.Wait bits) = wait_number ∷ bits ∷ []
+figures (said.Refusal number) = refusal_number ∷ number ∷ []
+figures (said.GossipTaken new applied) = gossip_taken_number ∷ new ∷ applied ∷ []
+figures (said.Open screen screens) = open_number ∷ screen ∷ screens ∷ []
+figures said.Send = send_number ∷ []
 -- no message
 figures (said.Unreadable number) = []

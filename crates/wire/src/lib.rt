@@ -1,17 +1,17 @@
 // The wire's kinds of message: what each says, how long it is, and the two steps that every reader and writer takes.
-use limits::LOG_ROOM;
-use limits::PARTS;
-use numbers::fields_fit;
-use numbers::put_fields;
+ghost use Rattle.std.specs.Prelude.{◌≡◌};
+ghost use Rattle.stamp.specs.Stamp.{total};
+ghost use Rattle.wire.specs.Kinds.{body_by, shaped};
+ghost use Rattle.wire.specs.Requests.{reply_room};
+ghost use Rattle.wire.specs.Write.{Meets, put_line};
+
+use limits::{LOG_ROOM, PARTS};
+use numbers::{fields_fit, put_fields};
 use stamp::Parts;
 use tally::Tap;
-ghost use mathlib.Core.Path.{_≡_};
-ghost use Rattle·stamp.specs.Stamp.{total};
-ghost use Rattle·wire·specs.specs.Kinds.{bodyBy, shaped};
-ghost use Rattle·wire·specs.specs.Requests.{replyRoom};
-ghost use Rattle·wire·specs.specs.Write.{Meets, putLine};
 
 // What a message says, in the order of the kinds; or that the bytes are refused.
+#[derive(Drop)]
 pub enum Said {
     Head {
         sender: u64,
@@ -57,12 +57,14 @@ pub enum Said {
 }
 
 // How many bytes were written, or the refusal's number.
+#[derive(Drop)]
 pub enum Written {
     Wrote(usize),
     Refused(u64),
 }
 
 // How long a kind's body is, or that there is no such kind.
+#[derive(Drop)]
 pub enum BodyLength {
     Long(usize),
     Bad(u64),
@@ -144,7 +146,7 @@ pub const SHORT: u64 = 12;
 
 // The body's length that the kind fixes.
 pub fn body_of(kind: u8) -> BodyLength
-    ensures { λ r. ⌜ r ≡ bodyBy kind ⌝ }
+    ensures { result ≡ body_by kind }
 {
     match kind {
         HEAD => BodyLength::Long(HEAD_BODY),
@@ -172,7 +174,7 @@ const QUESTION_ROOM: usize = KIND_SIZE + VERDICT_BODY;
 
 // The room that is always enough for the reply to a request of this kind; 0 where the kind is no request's.
 pub fn room_of(kind: u8) -> usize
-    ensures { λ r. ⌜ r ≡ replyRoom kind ⌝ }
+    ensures { result ≡ reply_room kind }
 {
     match kind {
         HEAD => GOSSIP_ROOM,
@@ -185,7 +187,7 @@ pub fn room_of(kind: u8) -> usize
 
 // Whether the bytes are of this kind and of its length.
 pub fn is_kind(msg: &[u8], kind: u8) -> bool
-    ensures { λ r. ⌜ r ≡ shaped kind (now (msg .entry)) ⌝ }
+    ensures { result ≡ shaped kind msg.now }
 {
     if msg.len() == 0 {
         return false;
@@ -204,8 +206,8 @@ pub fn is_kind(msg: &[u8], kind: u8) -> bool
 // The row of numbers at the front of out: refused with 1 where one does not fit its width, then with 12 where out is
 // too short.
 pub fn put_line(ws: &[usize], long: usize, line: &[u64], out: &mut [u8]) -> Written
-    requires { ⌜ total (now ws) ≡ long ⌝ }
-    ensures { λ r. ⌜ Meets (putLine (now (ws .entry)) (now (line .entry)) (now (out .entry))) r (now (out .exit)) ⌝ }
+    requires { total ws.now ≡ long }
+    ensures { Meets (put_line ws.now line.now out.old) result out.new }
 {
     if !fields_fit(ws, line) {
         return Written::Refused(BAD);

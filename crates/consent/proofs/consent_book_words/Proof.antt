@@ -1,11 +1,11 @@
 -- `consent::consent_book_words` meets its contract. Assumes nothing.
 use mathlib.Core.Path.{refl}
-use Rattle·lent.specs.Words.{bookLong}
-use Rattle·consent·proofs.proofs.consent_book_words.Statement.{statement}
-use Rattle·consent·proofs.proofs.consent_book_words.Tie as tie
+use Rattle.lent.specs.Words.{book_long}
+use Rattle.consent.proofs.consent_book_words.Statement.{statement}
+use Rattle.consent.proofs.consent_book_words.Tie as tie
 
 returns : tie.Need-returns
-unfolding bookLong
+unfolding book_long
 returns c = refl
 
 pub consent-book-words-spec : {M : Type 1} → statement M

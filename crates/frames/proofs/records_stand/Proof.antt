@@ -1,58 +1,58 @@
 -- `frames::records_stand` meets its contract. The invariant: what the records below k decide is what all decide.
 -- Assumes nothing.
-use Prim.Native.Nat.{ℕ, _≤_}
+use Prim.Native.Nat.{ℕ, ◌≤◌}
 use native.Mathlib.Omega.{arith}
-use mathlib.Core.Path.{_≡_, sym, ap, _∙_}
+use mathlib.Core.Path.{◌≡◌, sym, ap, ◌∙◌}
 use borrow.Author.Tests.{not-true, not-false}
-use Rattle·lists.specs.TestLaws.{below-last}
-use Rattle·frames·specs.specs.Next.{recordStands, recordsStand}
-use borrow.Author.Needs.{needs}
-use Rattle·frames·proofs.proofs.records_stand.Statement.{statement}
-use Rattle·frames·proofs.proofs.records_stand.Tie as tie
+use Rattle.lists.specs.TestLaws.{below_last}
+use Rattle.frames.specs.Next.{record_stands, records_stand}
+use borrow.Author.Rules.{rules}
+use Rattle.frames.proofs.records_stand.Statement.{statement}
+use Rattle.frames.proofs.records_stand.Tie as tie
 
-abbrev Inv-loop : tie.InvT-loop
-Inv-loop read count k₀ k = (k ≤ count) × (recordsStand count read ≡ recordsStand k read)
+abbrev invariant-loop : tie.invariant-loop
+invariant-loop read count k₀ k = (k ≤ count) × (records_stand count read ≡ records_stand k read)
 
-abbrev μ-loop : tie.MeasureT-loop
-μ-loop read count k₀ k = k
+abbrev decreases-loop : tie.decreases-loop
+decreases-loop read count k₀ k = k
 
-record-stands-requires : tie.Need-record-stands-requires Inv-loop μ-loop
-record-stands-requires c κs = let l = c .before in omega (arith, l .before .before .pre, l .loop .inv .0)
+record-stands-requires : tie.Need-record-stands-requires invariant-loop decreases-loop
+record-stands-requires c κs = let l = c.before in omega (arith, l.before.before.requires, l.loop.invariant.0)
 
-returns : tie.Need-returns Inv-loop μ-loop
+returns : tie.Need-returns invariant-loop decreases-loop
 returns c =
-    let l = c .before .before .before in
-    let s = l .before .before .args in
+    let l = c.before.before.before in
+    let s = l.before.before.args in
     sym
-    (l .loop .inv .1 ∙ below-last (recordStands (s .read .now)) (l .loop .k) (omega arith)
-    ∙ rw (sym (c .before .record-stands .ensures) ∙ not-true _ (c .if1 .taken)))
+    (l.loop.invariant.1 ∙ below_last (record_stands s.read.now) l.loop.k (omega arith)
+    ∙ rw (sym c.before.record-stands.ensures ∙ not-true _ c.if1.true))
 
-loop-again : tie.Need-loop-again Inv-loop μ-loop
+loop-again : tie.Need-loop-preserved invariant-loop decreases-loop
 loop-again c =
-    let l = c .before .before .before in
-    let s = l .before .before .args in (
+    let l = c.before.before.before in
+    let s = l.before.before.args in (
       omega arith,
-      l .loop .inv .1 ∙ below-last (recordStands (s .read .now)) (l .loop .k) (omega arith)
-          ∙ rw (sym (c .before .record-stands .ensures) ∙ not-false _ (c .if1 .left)),
+      l.loop.invariant.1 ∙ below_last (record_stands s.read.now) l.loop.k (omega arith)
+          ∙ rw (sym c.before.record-stands.ensures ∙ not-false _ c.if1.false),
     )
 
-returns-2 : tie.Need-returns-2 Inv-loop μ-loop
+returns-2 : tie.Need-returns-2 invariant-loop decreases-loop
 returns-2 c =
-    let l = c .before in
-    let s = l .before .before .args in
-    let e : l .loop .k ≡ 0 = omega arith in
-    sym (l .loop .inv .1 ∙ ap (λ (j : ℕ). recordsStand j (s .read .now)) e)
+    let l = c.before in
+    let s = l.before.before.args in
+    let e : l.loop.k ≡ 0 = omega arith in
+    sym (l.loop.invariant.1 ∙ ap (λ (j : ℕ). records_stand j s.read.now) e)
 
 pub records-stand-spec : {M : Type 1} → statement M
 records-stand-spec =
     tie.close
     (tie.spec
-    Inv-loop
-    μ-loop
-    (λ c. search needs)
-    (λ c. search needs)
+    invariant-loop
+    decreases-loop
+    (λ c. search rules)
+    (λ c. search rules)
     record-stands-requires
     returns
-    (λ c. search needs)
+    (λ c. search rules)
     loop-again
     returns-2)

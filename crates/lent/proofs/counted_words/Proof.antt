@@ -1,21 +1,21 @@
 -- `lent::counted_words` meets its contract. Assumes nothing.
 use native.Mathlib.Omega.{arith}
-use mathlib.Core.Path.{ap, _∙_}
+use mathlib.Core.Path.{ap, ◌∙◌}
 use lib.ListN.{length}
-use Rattle·lent·specs.specs.Lay.{piece-in, piece-long}
-use Rattle·lent·specs.specs.Words.{Counted, size, from}
-use Rattle·lent·proofs.proofs.counted_words.Statement.{statement}
-use Rattle·lent·proofs.proofs.counted_words.Tie as tie
+use Rattle.lent.specs.Lay.{piece_in, piece-long}
+use Rattle.lent.specs.Words.{Counted, size, from}
+use Rattle.lent.proofs.counted_words.Statement.{statement}
+use Rattle.lent.proofs.counted_words.Tie as tie
 
 part-requires : tie.Need-part-requires
 unfolding from size
-part-requires c κs = let s = c .before in omega (arith, piece-in (s .args .b .now) (s .pre) Counted)
+part-requires c κs = let s = c.before in omega (arith, piece_in s.args.b.now s.requires Counted)
 
 returns : tie.Need-returns
 unfolding from size
 returns c =
-    let s = c .before .before in
-    (c .part .ensures, ap length (c .part .ensures) ∙ piece-long (s .args .b .now) (s .pre) Counted)
+    let s = c.before.before in
+    (c.part.ensures, ap length c.part.ensures ∙ piece-long s.args.b.now s.requires Counted)
 
 pub counted-words-spec : {M : Type 1} → statement M
 counted-words-spec = tie.close (tie.spec part-requires returns)

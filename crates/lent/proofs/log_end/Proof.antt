@@ -1,8 +1,8 @@
 -- `lent::log_end` meets its contract. Assumes nothing.
 use mathlib.Core.Path.{refl}
-use Rattle·lent·specs.specs.Words.{from, size}
-use Rattle·lent·proofs.proofs.log_end.Statement.{statement}
-use Rattle·lent·proofs.proofs.log_end.Tie as tie
+use Rattle.lent.specs.Words.{from, size}
+use Rattle.lent.proofs.log_end.Statement.{statement}
+use Rattle.lent.proofs.log_end.Tie as tie
 
 returns : tie.Need-returns
 unfolding from size

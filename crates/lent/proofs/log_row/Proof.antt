@@ -1,46 +1,46 @@
 -- `lent::log_row` meets its contract. Assumes nothing.
 use native.Mathlib.Omega.{arith}
-use mathlib.Core.Path.{sym, _∙_}
-use Rattle·lent·specs.specs.Held.{held-long}
-use Rattle·lent·specs.specs.Rows.{record-within, record-words}
-use Rattle·lent·specs.specs.Words.{from, bookLong}
-use Rattle·lent·proofs.proofs.log_row.Statement.{statement}
-use Rattle·lent·proofs.proofs.log_row.Tie as tie
+use mathlib.Core.Path.{sym, ◌∙◌}
+use Rattle.lent.specs.Held.{held-long}
+use Rattle.lent.specs.Rows.{record-within, record-words}
+use Rattle.lent.specs.Words.{from, book_long}
+use Rattle.lent.proofs.log_row.Statement.{statement}
+use Rattle.lent.proofs.log_row.Tie as tie
 
-mul-row-at : tie.Need-mul-row-at
-unfolding from bookLong
+mul-row-at : tie.Need-overflow-mul-row-at
+unfolding from book_long
 mul-row-at c =
-    let s = c .before in
+    let s = c.before in
     record {
       fits = omega (
         arith,
-        record-within (s .args .b .now) (s .pre .0) (s .args .i) (s .pre .1),
-        held-long (s .args .b .now) (s .pre .0),
+        record-within s.args.b.now s.requires.0 s.args.i s.requires.1,
+        held-long s.args.b.now s.requires.0,
       );
     }
 
-add-row-at : tie.Need-add-row-at
-unfolding from bookLong
+add-row-at : tie.Need-overflow-add-row-at
+unfolding from book_long
 add-row-at c =
-    let s = c .before in
+    let s = c.before in
     record {
       fits = omega (
         arith,
-        record-within (s .args .b .now) (s .pre .0) (s .args .i) (s .pre .1),
-        held-long (s .args .b .now) (s .pre .0),
+        record-within s.args.b.now s.requires.0 s.args.i s.requires.1,
+        held-long s.args.b.now s.requires.0,
       );
     }
 
 row-at-requires : tie.Need-row-at-requires
 unfolding from
-row-at-requires c κs = let s = c .before in record-within (s .args .b .now) (s .pre .0) (s .args .i) (s .pre .1)
+row-at-requires c κs = let s = c.before in record-within s.args.b.now s.requires.0 s.args.i s.requires.1
 
 returns : tie.Need-returns
 unfolding from
 returns c =
-    let s = c .before .before in (
-      c .row-at .ensures .0 ∙ sym (record-words (s .args .b .now) (s .pre .0) (s .args .i) (s .pre .1)),
-      c .row-at .ensures .1,
+    let s = c.before.before in (
+      c.row_at.ensures.0 ∙ sym (record-words s.args.b.now s.requires.0 s.args.i s.requires.1),
+      c.row_at.ensures.1,
     )
 
 pub log-row-spec : {M : Type 1} → statement M

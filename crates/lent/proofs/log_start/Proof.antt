@@ -1,8 +1,8 @@
 -- `lent::log_start` meets its contract. Assumes nothing.
 use mathlib.Core.Path.{refl}
-use Rattle·lent·specs.specs.Words.{from}
-use Rattle·lent·proofs.proofs.log_start.Statement.{statement}
-use Rattle·lent·proofs.proofs.log_start.Tie as tie
+use Rattle.lent.specs.Words.{from}
+use Rattle.lent.proofs.log_start.Statement.{statement}
+use Rattle.lent.proofs.log_start.Tie as tie
 
 returns : tie.Need-returns
 unfolding from

@@ -1,8 +1,8 @@
 -- `lent::merge_at` meets its contract. Assumes nothing.
-use Rattle·lists.specs.Part.{mid, patch}
-use borrow.Author.Needs.{needs}
-use Rattle·lent·proofs.proofs.merge_at.Statement.{statement}
-use Rattle·lent·proofs.proofs.merge_at.Tie as tie
+use Rattle.lists.specs.Part.{mid, patch}
+use borrow.Author.Rules.{rules}
+use Rattle.lent.proofs.merge_at.Statement.{statement}
+use Rattle.lent.proofs.merge_at.Tie as tie
 
 returns : tie.Need-returns
 unfolding mid patch
@@ -12,10 +12,10 @@ pub merge-at-spec : {M : Type 1} → statement M
 merge-at-spec =
     tie.close
     (tie.spec
-    (λ c. search needs)
-    (λ c. search needs)
-    (λ c. search needs)
-    (λ c. search needs)
-    (λ c κs. search needs)
-    (λ c. search needs)
+    (λ c. search rules)
+    (λ c. search rules)
+    (λ c. search rules)
+    (λ c. search rules)
+    (λ c κs. search rules)
+    (λ c. search rules)
     returns)

@@ -1,9 +1,9 @@
 -- `lent::part` meets its contract. Assumes nothing.
 use mathlib.Core.Path.{refl}
-use Rattle·lists.specs.Part.{mid}
-use borrow.Author.Needs.{needs}
-use Rattle·lent·proofs.proofs.part.Statement.{statement}
-use Rattle·lent·proofs.proofs.part.Tie as tie
+use Rattle.lists.specs.Part.{mid}
+use borrow.Author.Rules.{rules}
+use Rattle.lent.proofs.part.Statement.{statement}
+use Rattle.lent.proofs.part.Tie as tie
 
 returns : tie.Need-returns
 unfolding mid
@@ -13,8 +13,8 @@ pub part-spec : {M : Type 1} → statement M
 part-spec =
     tie.close
     (tie.spec
-    (λ c. search needs)
-    (λ c. search needs)
-    (λ c. search needs)
-    (λ c. search needs)
+    (λ c. search rules)
+    (λ c. search rules)
+    (λ c. search rules)
+    (λ c. search rules)
     returns)

@@ -1,8 +1,8 @@
 -- `limits::most_screens` meets its contract. Assumes nothing.
 use mathlib.Core.Path.{refl}
-use Rattle·limits·specs.specs.Limits.{most}
-use Rattle·limits·proofs.proofs.most_screens.Statement.{statement}
-use Rattle·limits·proofs.proofs.most_screens.Tie as tie
+use Rattle.limits.specs.Limits.{most}
+use Rattle.limits.proofs.most_screens.Statement.{statement}
+use Rattle.limits.proofs.most_screens.Tie as tie
 
 returns : tie.Need-returns
 unfolding most

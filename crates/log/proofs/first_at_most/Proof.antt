@@ -1,61 +1,61 @@
 -- `log::first_at_most` meets its contract. The invariant: what the parts below k decide is what all decide. Assumes
 -- nothing.
-use Prim.Native.Nat.{ℕ, _≤_}
+use Prim.Native.Nat.{ℕ, ◌≤◌}
 use native.Mathlib.Omega.{arith}
-use mathlib.Core.Path.{_≡_, sym, ap, _∙_}
+use mathlib.Core.Path.{◌≡◌, sym, ap, ◌∙◌}
 use lib.Dec.{leb}
 use borrow.Author.Tests.{lt-leb, le-leb}
-use Rattle·lists.specs.TestLaws.{below-last}
-use Rattle·lists.specs.Tests.{allBelow}
-use Rattle·stamp.specs.Stamp.{part}
-use borrow.Author.Needs.{needs}
-use Rattle·log·proofs.proofs.first_at_most.Statement.{statement}
-use Rattle·log·proofs.proofs.first_at_most.Tie as tie
+use Rattle.lists.specs.TestLaws.{below_last}
+use Rattle.lists.specs.Tests.{all_below}
+use Rattle.stamp.specs.Stamp.{part}
+use borrow.Author.Rules.{rules}
+use Rattle.log.proofs.first_at_most.Statement.{statement}
+use Rattle.log.proofs.first_at_most.Tie as tie
 
-abbrev Inv-loop : tie.InvT-loop
-Inv-loop a b n k₀ k = (k ≤ n)
-    × (allBelow n (λ j. leb (part a j) (part b j)) ≡ allBelow k (λ j. leb (part a j) (part b j)))
+abbrev invariant-loop : tie.invariant-loop
+invariant-loop a b n k₀ k = (k ≤ n)
+    × (all_below n (λ j. leb (part a j) (part b j)) ≡ all_below k (λ j. leb (part a j) (part b j)))
 
-abbrev μ-loop : tie.MeasureT-loop
-μ-loop a b n k₀ k = k
+abbrev decreases-loop : tie.decreases-loop
+decreases-loop a b n k₀ k = k
 
-returns : tie.Need-returns Inv-loop μ-loop
+returns : tie.Need-returns invariant-loop decreases-loop
 returns c =
-    let l = c .before .before .before .before in
-    let s = l .before .args in
-    sym (l .loop .inv .1 ∙ below-last (λ j. leb (part (s .a .now) j) (part (s .b .now) j)) (l .loop .k) (omega arith)
-    ∙ rw (lt-leb _ _ (c .if1 .taken)))
+    let l = c.before.before.before.before in
+    let s = l.before.args in
+    sym (l.loop.invariant.1 ∙ below_last (λ j. leb (part s.a.now j) (part s.b.now j)) l.loop.k (omega arith)
+    ∙ rw (lt-leb _ _ c.if1.true))
 
-loop-again : tie.Need-loop-again Inv-loop μ-loop
+loop-again : tie.Need-loop-preserved invariant-loop decreases-loop
 loop-again c =
-    let l = c .before .before .before .before in
-    let s = l .before .args in (
+    let l = c.before.before.before.before in
+    let s = l.before.args in (
       omega arith,
-      l .loop .inv .1
-          ∙ below-last (λ j. leb (part (s .a .now) j) (part (s .b .now) j)) (l .loop .k) (omega arith)
-          ∙ rw (le-leb _ _ (c .if1 .left)),
+      l.loop.invariant.1
+          ∙ below_last (λ j. leb (part s.a.now j) (part s.b.now j)) l.loop.k (omega arith)
+          ∙ rw (le-leb _ _ c.if1.false),
     )
 
-returns-2 : tie.Need-returns-2 Inv-loop μ-loop
+returns-2 : tie.Need-returns-2 invariant-loop decreases-loop
 returns-2 c =
-    let l = c .before in
-    let s = l .before .args in
-    let e : l .loop .k ≡ 0 = omega arith in
-    sym (l .loop .inv .1 ∙ ap (λ (j : ℕ). allBelow j (λ i. leb (part (s .a .now) i) (part (s .b .now) i))) e)
+    let l = c.before in
+    let s = l.before.args in
+    let e : l.loop.k ≡ 0 = omega arith in
+    sym (l.loop.invariant.1 ∙ ap (λ (j : ℕ). all_below j (λ i. leb (part s.a.now i) (part s.b.now i))) e)
 
 pub first-at-most-spec : {M : Type 1} → statement M
 first-at-most-spec =
     tie.close
     (tie.spec
-    Inv-loop
-    μ-loop
-    (λ c. search needs)
-    (λ c. search needs)
-    (λ c. search needs)
-    (λ c. search needs)
-    (λ c. search needs)
-    (λ c. search needs)
+    invariant-loop
+    decreases-loop
+    (λ c. search rules)
+    (λ c. search rules)
+    (λ c. search rules)
+    (λ c. search rules)
+    (λ c. search rules)
+    (λ c. search rules)
     returns
-    (λ c. search needs)
+    (λ c. search rules)
     loop-again
     returns-2)

@@ -1,69 +1,69 @@
 -- `log::rows_sound` meets its contract. The invariant: what the rows from i on decide is what all decide. Assumes
 -- nothing.
-use Prim.Native.Nat.{_≤_, _-_, _*_}
+use Prim.Native.Nat.{◌≤◌, ◌-◌, ◌*◌}
 use native.Mathlib.Omega.{arith}
-use mathlib.Core.Path.{_≡_, refl, sym, _∙_}
+use mathlib.Core.Path.{◌≡◌, refl, sym, ◌∙◌}
 use borrow.Author.Tests.{not-true, not-false}
-use Rattle·lists.specs.Tests.{every}
-use Rattle·log·specs.specs.Region.{rowLong, recordsAt}
-use Rattle·log·specs.specs.Walk.{recordsFrom, records-all}
-use Rattle·log·specs.specs.RowSound.{rowSound}
-use Rattle·log·proofs.proofs.Turn.{every-on, every-off, every-end}
-use borrow.Author.Needs.{needs}
-use Rattle·log·proofs.proofs.rows_sound.Statement.{statement}
-use Rattle·log·proofs.proofs.rows_sound.Tie as tie
+use Rattle.lists.specs.Tests.{every}
+use Rattle.log.specs.Region.{row_long, records_at}
+use Rattle.log.specs.Walk.{records_from, records-all}
+use Rattle.log.specs.RowSound.{row_sound}
+use Rattle.log.proofs.Turn.{every-on, every-off, every-end}
+use borrow.Author.Rules.{rules}
+use Rattle.log.proofs.rows_sound.Statement.{statement}
+use Rattle.log.proofs.rows_sound.Tie as tie
 
-abbrev Inv-loop : tie.InvT-loop
-Inv-loop r count n known ready low value i₀ at₀ i at =
-    (i ≤ count) × (at ≡ i * rowLong)
-    × (every (rowSound n known ready low value) (recordsAt count r)
-    ≡ every (rowSound n known ready low value) (recordsFrom count r i at))
+abbrev invariant-loop : tie.invariant-loop
+invariant-loop r count n known ready low value i₀ at₀ i at =
+    (i ≤ count) × (at ≡ i * row_long)
+    × (every (row_sound n known ready low value) (records_at count r)
+    ≡ every (row_sound n known ready low value) (records_from count r i at))
 
-abbrev μ-loop : tie.MeasureT-loop
-μ-loop r count n known ready low value i₀ at₀ i at = count - i
+abbrev decreases-loop : tie.decreases-loop
+decreases-loop r count n known ready low value i₀ at₀ i at = count - i
 
-loop-holds : tie.Need-loop-holds Inv-loop μ-loop
+loop-holds : tie.Need-loop-init invariant-loop decreases-loop
 loop-holds c = (omega arith, refl, rw (← records-all _ _))
 
-returns : tie.Need-returns Inv-loop μ-loop
+returns : tie.Need-returns invariant-loop decreases-loop
 returns c =
-    let l = c .before .before .before .before in
-    let s = l .before .before .before .before .before .before .args in
-    let test = rowSound (s .n) (s .known .now) (s .ready .now) (s .low .now) (s .value .now) in
-    let e = sym (c .before .row-sound .ensures) ∙ not-true _ (c .if1 .taken) in
-    sym (l .loop .inv .2 ∙ every-off (s .count) (s .r .now) (l .loop .i) (l .loop .at) (omega arith) test e)
+    let l = c.before.before.before.before in
+    let s = l.before.before.before.before.before.before.args in
+    let test = row_sound s.n s.known.now s.ready.now s.low.now s.value.now in
+    let e = sym c.before.row-sound.ensures ∙ not-true _ c.if1.true in
+    sym (l.loop.invariant.2 ∙ every-off s.count s.r.now l.loop.i l.loop.at (omega arith) test e)
 
-loop-again : tie.Need-loop-again Inv-loop μ-loop
+loop-again : tie.Need-loop-preserved invariant-loop decreases-loop
 loop-again c =
-    let l = c .before .before .before .before in
-    let s = l .before .before .before .before .before .before .args in
-    let test = rowSound (s .n) (s .known .now) (s .ready .now) (s .low .now) (s .value .now) in
-    let e = sym (c .before .row-sound .ensures) ∙ not-false _ (c .if1 .left) in
-    let on = every-on (s .count) (s .r .now) (l .loop .i) (l .loop .at) (omega arith) test e in
-    (omega arith, omega arith, l .loop .inv .2 ∙ on)
+    let l = c.before.before.before.before in
+    let s = l.before.before.before.before.before.before.args in
+    let test = row_sound s.n s.known.now s.ready.now s.low.now s.value.now in
+    let e = sym c.before.row-sound.ensures ∙ not-false _ c.if1.false in
+    let on = every-on s.count s.r.now l.loop.i l.loop.at (omega arith) test e in
+    (omega arith, omega arith, l.loop.invariant.2 ∙ on)
 
-returns-2 : tie.Need-returns-2 Inv-loop μ-loop
+returns-2 : tie.Need-returns-2 invariant-loop decreases-loop
 returns-2 c =
-    let l = c .before in
-    let s = l .before .before .before .before .before .before .args in
-    let test = rowSound (s .n) (s .known .now) (s .ready .now) (s .low .now) (s .value .now) in
-    sym (l .loop .inv .2 ∙ every-end (s .count) (s .r .now) (l .loop .i) (l .loop .at) (c .loop-test .left) test)
+    let l = c.before in
+    let s = l.before.before.before.before.before.before.args in
+    let test = row_sound s.n s.known.now s.ready.now s.low.now s.value.now in
+    sym (l.loop.invariant.2 ∙ every-end s.count s.r.now l.loop.i l.loop.at c.loop-test.false test)
 
 pub rows-sound-spec : {M : Type 1} → statement M
 rows-sound-spec =
     tie.close
     (tie.spec
-    Inv-loop
-    μ-loop
+    invariant-loop
+    decreases-loop
     loop-holds
-    (λ c. search needs)
-    (λ c. search needs)
-    (λ c. search needs)
-    (λ c. search needs)
-    (λ c. search needs)
-    (λ c κs. search needs)
+    (λ c. search rules)
+    (λ c. search rules)
+    (λ c. search rules)
+    (λ c. search rules)
+    (λ c. search rules)
+    (λ c κs. search rules)
     returns
-    (λ c. search needs)
-    (λ c. search needs)
+    (λ c. search rules)
+    (λ c. search rules)
     loop-again
     returns-2)

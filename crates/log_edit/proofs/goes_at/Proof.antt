@@ -1,20 +1,20 @@
 -- `log_edit::goes_at` meets its contract. Assumes nothing.
-use Prim.Native.Nat.{_*_}
-use mathlib.Core.Path.{ap, _∙_}
-use Rattle·log.specs.Region.{rowLong}
-use Rattle·log.specs.Lowest.{goesBy}
-use Rattle·log.specs.Walk.{record-lent}
-use borrow.Author.Needs.{needs}
-use Rattle·log_edit·proofs.proofs.goes_at.Statement.{statement}
-use Rattle·log_edit·proofs.proofs.goes_at.Tie as tie
+use Prim.Native.Nat.{◌*◌}
+use mathlib.Core.Path.{ap, ◌∙◌}
+use Rattle.log.specs.Region.{row_long}
+use Rattle.log.specs.Lowest.{goes_by}
+use Rattle.log.specs.Walk.{record-lent}
+use borrow.Author.Rules.{rules}
+use Rattle.log_edit.proofs.goes_at.Statement.{statement}
+use Rattle.log_edit.proofs.goes_at.Tie as tie
 
 returns : tie.Need-returns
 returns c =
-    let s = c .before .before .before .before .before .args in
-    c .goes .ensures ∙ ap (goesBy (s .ready .now) (s .low .now)) (record-lent (s .r .now) (s .i * rowLong))
+    let s = c.before.before.before.before.before.args in
+    c.goes.ensures ∙ ap (goes_by s.ready.now s.low.now) (record-lent s.r.now (s.i * row_long))
 
 pub goes-at-spec : {M : Type 1} → statement M
 goes-at-spec =
     tie.close
-    (tie.spec (λ c. search needs) (λ c. search needs) (λ c. search needs) (λ c. search needs) (λ c. search needs)
-    (λ c. search needs) (λ c κs. search needs) returns)
+    (tie.spec (λ c. search rules) (λ c. search rules) (λ c. search rules) (λ c. search rules) (λ c. search rules)
+    (λ c. search rules) (λ c κs. search rules) returns)

@@ -1,66 +1,66 @@
 -- `numbers::number_of` meets its contract. The invariant: n is what the bytes up to i hold, and the rest goes on from
 -- it. Assumes nothing.
-use Prim.Native.Nat.{_≤_, _<_, _-_, _^_}
+use Prim.Native.Nat.{◌≤◌, ◌<◌, ◌-◌, ◌^◌}
 use native.Mathlib.Omega.{arith}
-use mathlib.Core.Path.{_≡_, sym, _∙_}
+use mathlib.Core.Path.{◌≡◌, sym, ◌∙◌}
 use lib.Dec.{lit<}
-use lib.ListN.{length, drop, drop-of-length-le}
-use borrow.Author.Needs.{needs}
-use Rattle·numbers·specs.specs.Number.{numberOf, numberFrom}
-use Rattle·numbers·proofs.proofs.Step.{number-more, number-grows, number-fits}
-use Rattle·numbers·proofs.proofs.number_of.Statement.{statement}
-use Rattle·numbers·proofs.proofs.number_of.Tie as tie
+use lib.ListN.{length, drop, drop_of_length-le}
+use borrow.Author.Rules.{rules}
+use Rattle.numbers.specs.Number.{number_of, number_from}
+use Rattle.numbers.proofs.Step.{number_more, number_grows, number_fits}
+use Rattle.numbers.proofs.number_of.Statement.{statement}
+use Rattle.numbers.proofs.number_of.Tie as tie
 
-abbrev Inv-loop : tie.InvT-loop
-Inv-loop s n₀ i₀ n i = (i ≤ length s) × (n < 256 ^ i) × (numberOf s ≡ numberFrom n (drop i s))
+abbrev invariant-loop : tie.invariant-loop
+invariant-loop s n₀ i₀ n i = (i ≤ length s) × (n < 256 ^ i) × (number_of s ≡ number_from n (drop i s))
 
-abbrev μ-loop : tie.MeasureT-loop
-μ-loop s n₀ i₀ n i = length s - i
+abbrev decreases-loop : tie.decreases-loop
+decreases-loop s n₀ i₀ n i = length s - i
 
-mul-n : tie.Need-mul-n Inv-loop μ-loop
+mul-n : tie.Need-overflow-mul-n invariant-loop decreases-loop
 mul-n c = omega (
   arith,
-  number-fits (c .before .loop .i) (c .before .loop .n) 0 (c .before .loop .inv .1) (lit< tt)
+  number_fits c.before.loop.i c.before.loop.n 0 c.before.loop.invariant.1 (lit< tt)
       (omega arith),
 )
 
-add-n : tie.Need-add-n Inv-loop μ-loop
+add-n : tie.Need-overflow-add-n invariant-loop decreases-loop
 add-n c =
-    let l = c .before .before .before in
-    rw (c .wide .ensures) (omega (
+    let l = c.before.before.before in
+    rw c.wide.ensures (omega (
       arith,
-      number-fits (l .loop .i) (l .loop .n) _ (l .loop .inv .1)
-          (c .before .shared-slice-known2 .given (l .loop .i) .fits) (omega arith),
+      number_fits l.loop.i l.loop.n _ l.loop.invariant.1
+          (c.before.shared-slice-known2.given l.loop.i).fits (omega arith),
     ))
 
-loop-again : tie.Need-loop-again Inv-loop μ-loop
+loop-again : tie.Need-loop-preserved invariant-loop decreases-loop
 loop-again c =
-    let l = c .before .before .before in
-    rw (c .wide .ensures) (
+    let l = c.before.before.before in
+    rw c.wide.ensures (
       omega arith,
-      number-grows (l .loop .i) _ _ (l .loop .inv .1) (c .before .shared-slice-known2 .given (l .loop .i) .fits),
-      l .loop .inv .2 ∙ number-more _ (l .loop .i) _ (omega arith),
+      number_grows l.loop.i _ _ l.loop.invariant.1 (c.before.shared-slice-known2.given l.loop.i).fits,
+      l.loop.invariant.2 ∙ number_more _ l.loop.i _ (omega arith),
     )
 
-returns : tie.Need-returns Inv-loop μ-loop
-unfolding numberFrom
+returns : tie.Need-returns invariant-loop decreases-loop
+unfolding number_from
 returns c =
-    let l = c .before in
-    let e : l .loop .i ≡ length (l .before .before .args .s .now) = omega arith in
-    (sym (l .loop .inv .2 ∙ rw (drop-of-length-le _ (c .loop-test .left))), rw e at (l .loop .inv .1))
+    let l = c.before in
+    let e : l.loop.i ≡ length l.before.before.args.s.now = omega arith in
+    (sym (l.loop.invariant.2 ∙ rw (drop_of_length-le _ c.loop-test.false)), rw e at l.loop.invariant.1)
 
 pub number-of-spec : {M : Type 1} → statement M
 number-of-spec =
     tie.close
     (tie.spec
-    Inv-loop
-    μ-loop
-    (λ c. search needs)
+    invariant-loop
+    decreases-loop
+    (λ c. search rules)
     mul-n
-    (λ c. search needs)
-    (λ c κs. search needs)
+    (λ c. search rules)
+    (λ c κs. search rules)
     add-n
-    (λ c. search needs)
-    (λ c. search needs)
+    (λ c. search rules)
+    (λ c. search rules)
     loop-again
     returns)

@@ -2,8 +2,8 @@
 use Prim.Native.Nat.{ℕ}
 use mathlib.Core.Path.{sym}
 use lib.ListN.{length-replicate}
-use Rattle·practice·proofs.proofs.room.Statement.{statement}
-use Rattle·practice·proofs.proofs.room.Tie as tie
+use Rattle.practice.proofs.room.Statement.{statement}
+use Rattle.practice.proofs.room.Tie as tie
 
 -- the level and the type are written out: else antt compares the two lists zero by zero
 returns : tie.Need-returns

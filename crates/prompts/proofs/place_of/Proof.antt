@@ -1,16 +1,16 @@
 -- `prompts::place_of` meets its contract. Assumes nothing.
-use borrow.Author.Needs.{needs}
-use Rattle·limits.specs.Limits.{promptCount}
-use Rattle·prompts·proofs.proofs.place_of.Statement.{statement}
-use Rattle·prompts·proofs.proofs.place_of.Tie as tie
+use borrow.Author.Rules.{rules}
+use Rattle.limits.specs.Limits.{prompt_count}
+use Rattle.prompts.proofs.place_of.Statement.{statement}
+use Rattle.prompts.proofs.place_of.Tie as tie
 
-mul-result : tie.Need-mul-result
-unfolding promptCount
-mul-result c = search needs
+mul-result : tie.Need-overflow-mul-result
+unfolding prompt_count
+mul-result c = search rules
 
 returns : tie.Need-returns
-unfolding promptCount
-returns c = search needs
+unfolding prompt_count
+returns c = search rules
 
 pub place-of-spec : {M : Type 1} → statement M
 place-of-spec = tie.close (tie.spec mul-result returns)

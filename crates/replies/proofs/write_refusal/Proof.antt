@@ -1,30 +1,30 @@
 -- `replies::write_refusal` meets its contract. Assumes nothing.
 use mathlib.Core.Path.{refl}
-use Rattle·wire.specs.Returns.{failed, passed, broken, put}
-use Rattle·wire.specs.Kinds.{refusalKind}
-use borrow.Author.Needs.{needs}
-use Rattle·replies·proofs.proofs.write_refusal.Statement.{statement}
-use Rattle·replies·proofs.proofs.write_refusal.Tie as tie
+use Rattle.wire.specs.Returns.{failed, passed, broken, put}
+use Rattle.wire.specs.Kinds.{refusal_kind}
+use borrow.Author.Rules.{rules}
+use Rattle.replies.proofs.write_refusal.Statement.{statement}
+use Rattle.replies.proofs.write_refusal.Tie as tie
 
 returns : tie.Need-returns
-unfolding refusalKind
-returns c = broken refusalKind _ _ refl (failed (c .before .in-table .ensures) (c .if1 .taken))
+unfolding refusal_kind
+returns c = broken refusal_kind _ _ refl (failed c.before.in_table.ensures c.if1.true)
 
 returns-2 : tie.Need-returns-2
-unfolding refusalKind
-returns-2 c = let r = c .before .before .before .before .before .before in
-    put refusalKind _ _ refl _ _ (passed (r .before .in-table .ensures) (r .if1 .left))
-    (c .before .before .put-line .ensures)
+unfolding refusal_kind
+returns-2 c = let r = c.before.before.before.before.before.before in
+    put refusal_kind _ _ refl _ _ (passed r.before.in_table.ensures r.if1.false)
+    c.before.before.put-line.ensures
 
 pub write-refusal-spec : {M : Type 1} → statement M
 write-refusal-spec =
     tie.close
     (tie.spec
-    (λ c κs. search needs)
+    (λ c κs. search rules)
     returns
-    (λ c. search needs)
-    (λ c. search needs)
-    (λ c. search needs)
-    (λ c κs. search needs)
-    (λ c. search needs)
+    (λ c. search rules)
+    (λ c. search rules)
+    (λ c. search rules)
+    (λ c κs. search rules)
+    (λ c. search rules)
     returns-2)

@@ -2,17 +2,17 @@
 use mathlib.Core.Path.{sym}
 use native.Mathlib.Omega.{arith}
 use borrow.Author.Tests.{le-leb, lt-leb}
-use Rattle·limits.specs.Limits.{logRoom}
-use Rattle·requests·proofs.proofs.count_fits.Statement.{statement}
-use Rattle·requests·proofs.proofs.count_fits.Tie as tie
+use Rattle.limits.specs.Limits.{log_room}
+use Rattle.requests.proofs.count_fits.Statement.{statement}
+use Rattle.requests.proofs.count_fits.Tie as tie
 
 returns : tie.Need-returns
-unfolding logRoom
-returns c = sym (le-leb (c .before .args .count) logRoom (omega arith))
+unfolding log_room
+returns c = sym (le-leb c.before.args.count log_room (omega arith))
 
 returns-2 : tie.Need-returns-2
-unfolding logRoom
-returns-2 c = sym (lt-leb (c .before .args .count) logRoom (omega arith))
+unfolding log_room
+returns-2 c = sym (lt-leb c.before.args.count log_room (omega arith))
 
 pub count-fits-spec : {M : Type 1} → statement M
 count-fits-spec = tie.close (tie.spec returns returns-2)

@@ -1,18 +1,18 @@
 -- `requests::tap_fits` meets its contract. Assumes nothing.
-use Rattle·stamp.specs.Parts.{listOf, partsAt}
-use Rattle·wire.specs.Kinds.{tapKind}
-use Rattle·wire.specs.Returns.{failed, passed}
-use borrow.Author.Needs.{needs}
-use Rattle·requests·proofs.proofs.tap_fits.Statement.{statement}
-use Rattle·requests·proofs.proofs.tap_fits.Tie as tie
+use Rattle.stamp.specs.Parts.{list_of, parts_at}
+use Rattle.wire.specs.Kinds.{tap_kind}
+use Rattle.wire.specs.Returns.{failed, passed}
+use borrow.Author.Rules.{rules}
+use Rattle.requests.proofs.tap_fits.Statement.{statement}
+use Rattle.requests.proofs.tap_fits.Tie as tie
 
 returns : tie.Need-returns
-unfolding tapKind partsAt listOf
-returns c = rw (failed (c .before .fits2 .ensures) (c .if1 .taken))
+unfolding tap_kind parts_at list_of
+returns c = rw (failed c.before.fits2.ensures c.if1.true)
 
 returns-2 : tie.Need-returns-2
-unfolding tapKind partsAt listOf
-returns-2 c = let r = c .before in rw (passed (r .before .fits2 .ensures) (r .if1 .left)) (c .parts-fit .ensures)
+unfolding tap_kind parts_at list_of
+returns-2 c = let r = c.before in rw (passed r.before.fits2.ensures r.if1.false) c.parts-fit.ensures
 
 pub tap-fits-spec : {M : Type 1} → statement M
-tap-fits-spec = tie.close (tie.spec (λ c κs. search needs) returns (λ c κs. search needs) returns-2)
+tap-fits-spec = tie.close (tie.spec (λ c κs. search rules) returns (λ c κs. search rules) returns-2)

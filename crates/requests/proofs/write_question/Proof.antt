@@ -1,43 +1,43 @@
 -- `requests::write_question` meets its contract. Assumes nothing.
 use mathlib.Core.Path.{refl}
-use Rattle·lists.specs.Part.{patch}
-use Rattle·stamp.specs.Parts.{listOf}
-use Rattle·wire.specs.Returns.{failed, passed, broken, put}
-use Rattle·wire.specs.Kinds.{questionKind}
-use borrow.Author.Needs.{needs}
-use Rattle·requests·proofs.proofs.write_question.Statement.{statement}
-use Rattle·requests·proofs.proofs.write_question.Tie as tie
+use Rattle.lists.specs.Part.{patch}
+use Rattle.stamp.specs.Parts.{list_of}
+use Rattle.wire.specs.Returns.{failed, passed, broken, put}
+use Rattle.wire.specs.Kinds.{question_kind}
+use borrow.Author.Rules.{rules}
+use Rattle.requests.proofs.write_question.Statement.{statement}
+use Rattle.requests.proofs.write_question.Tie as tie
 
 returns : tie.Need-returns
-unfolding questionKind
-returns c = broken (questionKind _) _ _ refl (failed (c .before .question-fits .ensures) (c .if1 .taken))
+unfolding question_kind
+returns c = broken (question_kind _) _ _ refl (failed c.before.question-fits.ensures c.if1.true)
 
 put-line-requires : tie.Need-put-line-requires
-put-line-requires c κs = rw (c .before .before .before .question-widths .ensures) refl
+put-line-requires c κs = rw c.before.before.before.question-widths.ensures refl
 
 returns-2 : tie.Need-returns-2
-unfolding questionKind listOf patch
+unfolding question_kind list_of patch
 returns-2 c =
-    let w = c .before .before .before .before .before .before in
-    let a = w .before .before in
-    let r = a .before .before in
-    put (questionKind _) _ _ refl _ _ (passed (r .before .question-fits .ensures) (r .if1 .left))
-    (rw (w .question-widths .ensures, a .put-parts .ensures) at (c .before .before .put-line .ensures))
+    let w = c.before.before.before.before.before.before in
+    let a = w.before.before in
+    let r = a.before.before in
+    put (question_kind _) _ _ refl _ _ (passed r.before.question-fits.ensures r.if1.false)
+    (rw (w.question-widths.ensures, a.put-parts.ensures) at c.before.before.put-line.ensures)
 
 pub write-question-spec : {M : Type 1} → statement M
 write-question-spec =
     tie.close
     (tie.spec
-    (λ c κs. search needs)
+    (λ c κs. search rules)
     returns
-    (λ c. search needs)
-    (λ c. search needs)
-    (λ c. search needs)
-    (λ c. search needs)
-    (λ c κs. search needs)
-    (λ c κs. search needs)
-    (λ c. search needs)
-    (λ c. search needs)
+    (λ c. search rules)
+    (λ c. search rules)
+    (λ c. search rules)
+    (λ c. search rules)
+    (λ c κs. search rules)
+    (λ c κs. search rules)
+    (λ c. search rules)
+    (λ c. search rules)
     put-line-requires
-    (λ c. search needs)
+    (λ c. search rules)
     returns-2)

@@ -1,76 +1,76 @@
 -- `soundness::rows_counted` meets its contract. The invariant: what the rows from i on decide is what all decide.
 -- Assumes nothing.
-use Prim.Native.Nat.{ℕ, _≤_, _-_, _*_}
+use Prim.Native.Nat.{ℕ, ◌≤◌, ◌-◌, ◌*◌}
 use native.Mathlib.Omega.{arith}
-use mathlib.Core.Path.{_≡_, refl, sym, _∙_}
-use mathlib.Core.Bool.{Bool, not, _||_}
+use mathlib.Core.Path.{◌≡◌, refl, sym, ◌∙◌}
+use mathlib.Core.Bool.{Bool, not, ◌||◌}
 use mathlib.Core.List.{List}
 use borrow.Author.Tests.{not-true, not-false}
-use Rattle·lists.specs.Tests.{every}
-use Rattle·ledger.specs.Record.{isApplied}
-use Rattle·log.specs.Region.{rowLong, recordAt, recordsAt}
-use Rattle·taps.specs.Region.{tapsAt}
-use Rattle·meaning.specs.Book.{countedIn}
-use Rattle·soundness·proofs.proofs.Turn.{everyFrom, records-all, rows-on, rows-off, rows-end}
-use borrow.Author.Needs.{needs}
-use Rattle·soundness·proofs.proofs.rows_counted.Statement.{statement}
-use Rattle·soundness·proofs.proofs.rows_counted.Tie as tie
+use Rattle.lists.specs.Tests.{every}
+use Rattle.ledger.specs.Record.{is_applied}
+use Rattle.log.specs.Region.{row_long, record_at, records_at}
+use Rattle.taps.specs.Region.{taps_at}
+use Rattle.meaning.specs.Book.{counted_in}
+use Rattle.soundness.proofs.Turn.{every_from, records-all, rows_on, rows-off, rows_end}
+use borrow.Author.Rules.{rules}
+use Rattle.soundness.proofs.rows_counted.Statement.{statement}
+use Rattle.soundness.proofs.rows_counted.Tie as tie
 
 -- the test of a row
 abbrev counts : List ℕ → List ℕ → ℕ → List ℕ → Bool
-counts ready counted taps x = not (isApplied ready (recordAt x)) || countedIn (tapsAt taps counted) (recordAt x)
+counts ready counted taps x = not (is_applied ready (record_at x)) || counted_in (taps_at taps counted) (record_at x)
 
-abbrev Inv-loop : tie.InvT-loop
-Inv-loop r count ready counted taps i₀ at₀ i at =
-    (i ≤ count) × (at ≡ i * rowLong)
-    × (every (λ x. not (isApplied ready x) || countedIn (tapsAt taps counted) x) (recordsAt count r)
-    ≡ everyFrom (counts ready counted taps) rowLong count r i at)
+abbrev invariant-loop : tie.invariant-loop
+invariant-loop r count ready counted taps i₀ at₀ i at =
+    (i ≤ count) × (at ≡ i * row_long)
+    × (every (λ x. not (is_applied ready x) || counted_in (taps_at taps counted) x) (records_at count r)
+    ≡ every_from (counts ready counted taps) row_long count r i at)
 
-abbrev μ-loop : tie.MeasureT-loop
-μ-loop r count ready counted taps i₀ at₀ i at = count - i
+abbrev decreases-loop : tie.decreases-loop
+decreases-loop r count ready counted taps i₀ at₀ i at = count - i
 
-loop-holds : tie.Need-loop-holds Inv-loop μ-loop
-loop-holds c = (omega arith, refl, records-all (λ x. not (isApplied _ x) || countedIn _ x) _ _)
+loop-holds : tie.Need-loop-init invariant-loop decreases-loop
+loop-holds c = (omega arith, refl, records-all (λ x. not (is_applied _ x) || counted_in _ x) _ _)
 
-returns : tie.Need-returns Inv-loop μ-loop
+returns : tie.Need-returns invariant-loop decreases-loop
 returns c =
-    let l = c .before .before .before .before in
-    let s = l .before .before .before .before .args in
-    let test = counts (s .ready .now) (s .counted .now) (s .taps) in
-    let e = sym (c .before .row-counted .ensures) ∙ not-true _ (c .if1 .taken) in
-    sym (l .loop .inv .2 ∙ rows-off test rowLong (s .count) (s .r .now) (l .loop .i) (l .loop .at) (omega arith) e)
+    let l = c.before.before.before.before in
+    let s = l.before.before.before.before.args in
+    let test = counts s.ready.now s.counted.now s.taps in
+    let e = sym c.before.row-counted.ensures ∙ not-true _ c.if1.true in
+    sym (l.loop.invariant.2 ∙ rows-off test row_long s.count s.r.now l.loop.i l.loop.at (omega arith) e)
 
-loop-again : tie.Need-loop-again Inv-loop μ-loop
+loop-again : tie.Need-loop-preserved invariant-loop decreases-loop
 loop-again c =
-    let l = c .before .before .before .before in
-    let s = l .before .before .before .before .args in
-    let test = counts (s .ready .now) (s .counted .now) (s .taps) in
-    let e = sym (c .before .row-counted .ensures) ∙ not-false _ (c .if1 .left) in
-    let on = rows-on test rowLong (s .count) (s .r .now) (l .loop .i) (l .loop .at) (omega arith) e in
-    (omega arith, omega arith, l .loop .inv .2 ∙ on)
+    let l = c.before.before.before.before in
+    let s = l.before.before.before.before.args in
+    let test = counts s.ready.now s.counted.now s.taps in
+    let e = sym c.before.row-counted.ensures ∙ not-false _ c.if1.false in
+    let on = rows_on test row_long s.count s.r.now l.loop.i l.loop.at (omega arith) e in
+    (omega arith, omega arith, l.loop.invariant.2 ∙ on)
 
-returns-2 : tie.Need-returns-2 Inv-loop μ-loop
+returns-2 : tie.Need-returns-2 invariant-loop decreases-loop
 returns-2 c =
-    let l = c .before in
-    let s = l .before .before .before .before .args in
-    let test = counts (s .ready .now) (s .counted .now) (s .taps) in
-    sym (l .loop .inv .2 ∙ rows-end test rowLong (s .count) (s .r .now) (l .loop .i) (l .loop .at) (c .loop-test .left))
+    let l = c.before in
+    let s = l.before.before.before.before.args in
+    let test = counts s.ready.now s.counted.now s.taps in
+    sym (l.loop.invariant.2 ∙ rows_end test row_long s.count s.r.now l.loop.i l.loop.at c.loop-test.false)
 
 pub rows-counted-spec : {M : Type 1} → statement M
 rows-counted-spec =
     tie.close
     (tie.spec
-    Inv-loop
-    μ-loop
+    invariant-loop
+    decreases-loop
     loop-holds
-    (λ c. search needs)
-    (λ c. search needs)
-    (λ c. search needs)
-    (λ c. search needs)
-    (λ c. search needs)
-    (λ c κs. search needs)
+    (λ c. search rules)
+    (λ c. search rules)
+    (λ c. search rules)
+    (λ c. search rules)
+    (λ c. search rules)
+    (λ c κs. search rules)
     returns
-    (λ c. search needs)
-    (λ c. search needs)
+    (λ c. search rules)
+    (λ c. search rules)
     loop-again
     returns-2)

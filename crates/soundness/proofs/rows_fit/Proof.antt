@@ -1,68 +1,68 @@
 -- `soundness::rows_fit` meets its contract. The invariant: what the rows from i on decide is what all decide. Assumes
 -- nothing.
-use Prim.Native.Nat.{_≤_, _-_, _*_}
+use Prim.Native.Nat.{◌≤◌, ◌-◌, ◌*◌}
 use native.Mathlib.Omega.{arith}
-use mathlib.Core.Path.{_≡_, refl, sym, _∙_}
+use mathlib.Core.Path.{◌≡◌, refl, sym, ◌∙◌}
 use borrow.Author.Tests.{not-true, not-false}
-use Rattle·lists.specs.Rows.{rows}
-use Rattle·lists.specs.Tests.{every}
-use Rattle·limits.specs.Limits.{parts}
-use Rattle·stamp.specs.Stamp.{stampFits}
-use Rattle·soundness·proofs.proofs.Turn.{everyFrom, rows-all, rows-on, rows-off, rows-end}
-use borrow.Author.Needs.{needs}
-use Rattle·soundness·proofs.proofs.rows_fit.Statement.{statement}
-use Rattle·soundness·proofs.proofs.rows_fit.Tie as tie
+use Rattle.lists.specs.Rows.{rows}
+use Rattle.lists.specs.Tests.{every}
+use Rattle.limits.specs.Limits.{parts}
+use Rattle.stamp.specs.Stamp.{stamp_fits}
+use Rattle.soundness.proofs.Turn.{every_from, rows_all, rows_on, rows-off, rows_end}
+use borrow.Author.Rules.{rules}
+use Rattle.soundness.proofs.rows_fit.Statement.{statement}
+use Rattle.soundness.proofs.rows_fit.Tie as tie
 
-abbrev Inv-loop : tie.InvT-loop
-Inv-loop table n i₀ at₀ i at =
-    (i ≤ n) × (at ≡ i * parts) × (every (stampFits n) (rows parts n table) ≡ everyFrom (stampFits n) parts n table i at)
+abbrev invariant-loop : tie.invariant-loop
+invariant-loop table n i₀ at₀ i at =
+    (i ≤ n) × (at ≡ i * parts) × (every (stamp_fits n) (rows parts n table) ≡ every_from (stamp_fits n) parts n table i at)
 
-abbrev μ-loop : tie.MeasureT-loop
-μ-loop table n i₀ at₀ i at = n - i
+abbrev decreases-loop : tie.decreases-loop
+decreases-loop table n i₀ at₀ i at = n - i
 
-loop-holds : tie.Need-loop-holds Inv-loop μ-loop
-loop-holds c = (omega arith, refl, rows-all _ _ _ _)
+loop-holds : tie.Need-loop-init invariant-loop decreases-loop
+loop-holds c = (omega arith, refl, rows_all _ _ _ _)
 
-returns : tie.Need-returns Inv-loop μ-loop
+returns : tie.Need-returns invariant-loop decreases-loop
 returns c =
-    let l = c .before .before .before .before in
-    let s = l .before .before .args in
-    sym (l .loop .inv .2 ∙ rows-off (stampFits (s .n)) parts (s .n) (s .table .now) (l .loop .i) (l .loop .at)
-    (omega arith) (sym (c .before .fits2 .ensures) ∙ not-true _ (c .if1 .taken)))
+    let l = c.before.before.before.before in
+    let s = l.before.before.args in
+    sym (l.loop.invariant.2 ∙ rows-off (stamp_fits s.n) parts s.n s.table.now l.loop.i l.loop.at
+    (omega arith) (sym c.before.fits2.ensures ∙ not-true _ c.if1.true))
 
-loop-again : tie.Need-loop-again Inv-loop μ-loop
+loop-again : tie.Need-loop-preserved invariant-loop decreases-loop
 loop-again c =
-    let l = c .before .before .before .before in
-    let s = l .before .before .args in (
+    let l = c.before.before.before.before in
+    let s = l.before.before.args in (
       omega arith,
       omega arith,
-      l .loop .inv .2
-          ∙ rows-on (stampFits (s .n)) parts (s .n) (s .table .now) (l .loop .i) (l .loop .at) (omega arith)
-          (sym (c .before .fits2 .ensures) ∙ not-false _ (c .if1 .left)),
+      l.loop.invariant.2
+          ∙ rows_on (stamp_fits s.n) parts s.n s.table.now l.loop.i l.loop.at (omega arith)
+          (sym c.before.fits2.ensures ∙ not-false _ c.if1.false),
     )
 
-returns-2 : tie.Need-returns-2 Inv-loop μ-loop
+returns-2 : tie.Need-returns-2 invariant-loop decreases-loop
 returns-2 c =
-    let l = c .before in
-    let s = l .before .before .args in
-    sym (l .loop .inv .2 ∙ rows-end (stampFits (s .n)) parts (s .n) (s .table .now) (l .loop .i) (l .loop .at)
-    (c .loop-test .left))
+    let l = c.before in
+    let s = l.before.before.args in
+    sym (l.loop.invariant.2 ∙ rows_end (stamp_fits s.n) parts s.n s.table.now l.loop.i l.loop.at
+    c.loop-test.false)
 
 pub rows-fit-spec : {M : Type 1} → statement M
 rows-fit-spec =
     tie.close
     (tie.spec
-    Inv-loop
-    μ-loop
+    invariant-loop
+    decreases-loop
     loop-holds
-    (λ c. search needs)
-    (λ c. search needs)
-    (λ c. search needs)
-    (λ c. search needs)
-    (λ c. search needs)
-    (λ c κs. search needs)
+    (λ c. search rules)
+    (λ c. search rules)
+    (λ c. search rules)
+    (λ c. search rules)
+    (λ c. search rules)
+    (λ c κs. search rules)
     returns
-    (λ c. search needs)
-    (λ c. search needs)
+    (λ c. search rules)
+    (λ c. search rules)
     loop-again
     returns-2)

@@ -1,75 +1,75 @@
 -- `wire::body_of` meets its contract. Assumes nothing.
-use borrow.Author.Tests.{ne-eqb}
-use Rattle·wire·specs.specs.Kinds.{bodyBy}
-use Rattle·wire·proofs.proofs.body_of.Statement.{statement}
-use Rattle·wire·proofs.proofs.body_of.Tie as tie
+use borrow.Author.Tests.{ne_eqb}
+use Rattle.wire.specs.Kinds.{body_by}
+use Rattle.wire.proofs.body_of.Statement.{statement}
+use Rattle.wire.proofs.body_of.Tie as tie
 
 returns : tie.Need-returns
-unfolding bodyBy
-returns c = rw (c .match .keys1)
+unfolding body_by
+returns c = rw c.match.keys1
 
 returns-2 : tie.Need-returns-2
-unfolding bodyBy
-returns-2 c = rw (c .match .keys2)
+unfolding body_by
+returns-2 c = rw c.match.keys2
 
 returns-3 : tie.Need-returns-3
-unfolding bodyBy
-returns-3 c = rw (c .match .keys3)
+unfolding body_by
+returns-3 c = rw c.match.keys3
 
 returns-4 : tie.Need-returns-4
-unfolding bodyBy
-returns-4 c = rw (c .match .keys4)
+unfolding body_by
+returns-4 c = rw c.match.keys4
 
 returns-5 : tie.Need-returns-5
-unfolding bodyBy
-returns-5 c = rw (c .match .keys5)
+unfolding body_by
+returns-5 c = rw c.match.keys5
 
 returns-6 : tie.Need-returns-6
-unfolding bodyBy
-returns-6 c = rw (c .match .keys6)
+unfolding body_by
+returns-6 c = rw c.match.keys6
 
 returns-7 : tie.Need-returns-7
-unfolding bodyBy
-returns-7 c = rw (c .match .keys7)
+unfolding body_by
+returns-7 c = rw c.match.keys7
 
 returns-8 : tie.Need-returns-8
-unfolding bodyBy
-returns-8 c = rw (c .match .keys8)
+unfolding body_by
+returns-8 c = rw c.match.keys8
 
 returns-9 : tie.Need-returns-9
-unfolding bodyBy
-returns-9 c = rw (c .match .keys9)
+unfolding body_by
+returns-9 c = rw c.match.keys9
 
 returns-10 : tie.Need-returns-10
-unfolding bodyBy
-returns-10 c = rw (c .match .keys10)
+unfolding body_by
+returns-10 c = rw c.match.keys10
 
 returns-11 : tie.Need-returns-11
-unfolding bodyBy
-returns-11 c = rw (c .match .keys11)
+unfolding body_by
+returns-11 c = rw c.match.keys11
 
 returns-12 : tie.Need-returns-12
-unfolding bodyBy
-returns-12 c = rw (c .match .keys12)
+unfolding body_by
+returns-12 c = rw c.match.keys12
 
 -- no kind's number: each test fails, the last arm's first
 returns-13 : tie.Need-returns-13
-unfolding bodyBy
+unfolding body_by
 returns-13 c =
-    let r = c .match .rest in
+    let r = c.match.rest in
     simp (
-      ne-eqb _ _ (r .1),
-      ne-eqb _ _ (r .0 .1),
-      ne-eqb _ _ (r .0 .0 .1),
-      ne-eqb _ _ (r .0 .0 .0 .1),
-      ne-eqb _ _ (r .0 .0 .0 .0 .1),
-      ne-eqb _ _ (r .0 .0 .0 .0 .0 .1),
-      ne-eqb _ _ (r .0 .0 .0 .0 .0 .0 .1),
-      ne-eqb _ _ (r .0 .0 .0 .0 .0 .0 .0 .1),
-      ne-eqb _ _ (r .0 .0 .0 .0 .0 .0 .0 .0 .1),
-      ne-eqb _ _ (r .0 .0 .0 .0 .0 .0 .0 .0 .0 .1),
-      ne-eqb _ _ (r .0 .0 .0 .0 .0 .0 .0 .0 .0 .0 .1),
-      ne-eqb _ _ (r .0 .0 .0 .0 .0 .0 .0 .0 .0 .0 .0 .1),
+      ne_eqb _ _ r.1,
+      ne_eqb _ _ r.0.1,
+      ne_eqb _ _ r.0.0.1,
+      ne_eqb _ _ r.0.0.0.1,
+      ne_eqb _ _ r.0.0.0.0.1,
+      ne_eqb _ _ r.0.0.0.0.0.1,
+      ne_eqb _ _ r.0.0.0.0.0.0.1,
+      ne_eqb _ _ r.0.0.0.0.0.0.0.1,
+      ne_eqb _ _ r.0.0.0.0.0.0.0.0.1,
+      ne_eqb _ _ r.0.0.0.0.0.0.0.0.0.1,
+      ne_eqb _ _ r.0.0.0.0.0.0.0.0.0.0.1,
+      ne_eqb _ _ r.0.0.0.0.0.0.0.0.0.0.0.1,
     )
 
 pub body-of-spec : {M : Type 1} → statement M
