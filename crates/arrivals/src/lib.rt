@@ -67,7 +67,7 @@ fn survey(msg: &[u8], count: usize, n: usize, m: Parts, known: &[u64], reached: 
 }
 
 // What the records come to under a known stamp: whether each that m counts is known or there, and how many are new.
-#[derive(Drop)]
+#[derive(Clone, Copy)]
 pub struct Look {
     pub whole: bool,
     pub new: usize,

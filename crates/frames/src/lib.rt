@@ -10,7 +10,7 @@ use wire::{BodyLength, HEAD, HEAD_SIZE, KIND_SIZE, OPEN, RECORD, RECORD_SIZE, bo
 
 // At least so many bytes in all are needed to tell; the message has so many in all; or 09 01 is written, and reading
 // stops.
-#[derive(Drop)]
+#[derive(Clone, Copy)]
 pub enum Frame {
     More(usize),
     Whole(usize),

@@ -169,7 +169,7 @@ pub fn take_new(
 }
 
 // The reply that stops a gossip; or its head and the number of its new records, which may be taken.
-#[derive(Drop)]
+#[derive(Clone, Copy)]
 pub enum GossipStop {
     Stopped(Reply),
     Clear {

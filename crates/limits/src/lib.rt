@@ -1,5 +1,7 @@
 // One page of numbers, as the code has them: constants where the language asks for one, and small functions for all
 // else.
+#![tactic(auto, unfolding(crate::specs::Limits::log_room, crate::specs::Limits::book_room, crate::specs::Limits::most))]
+
 ghost use Rattle.std.specs.Prelude.{◌≡◌};
 ghost use Rattle.limits.specs.Limits.{most, log_room, book_room};
 

@@ -1,5 +1,7 @@
 // Big-endian numbers on slices of bytes, one reader and one writer for every width; and rows of them, by a list of
 // widths.
+#![tactic(auto)]
+
 ghost use Rattle.std.specs.Prelude.{◌≡◌, ◌+◌, ◌^◌, ◌≤◌, ◌<◌, ltb, T, leb, length};
 ghost use Rattle.lists.specs.Part.{mid, patch};
 ghost use Rattle.numbers.specs.Number.{number_of, bytes_of};

@@ -8,7 +8,7 @@ use lent::{BOOK, SCREEN, SCREENS};
 use promise::{UNSOUND, WRONG_HOUSE};
 
 // Whether the book is open, or the refusal's number.
-#[derive(Drop)]
+#[derive(Clone, Copy)]
 pub enum Opening {
     Opened,
     Refused(u64),

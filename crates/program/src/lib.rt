@@ -15,7 +15,7 @@ use wire::{BAD, Written};
 
 // Read until so many bytes are there in all, or the input ends; so many bytes of what is read are used up, and so many
 // at the output's front are said; so many are said, and the program stops; it stops without a word.
-#[derive(Drop)]
+#[derive(Clone, Copy)]
 pub enum Turn {
     Read(usize),
     Say { used: usize, said: usize },

@@ -2,7 +2,7 @@
 use stamp::Parts;
 
 // The answers to a tap (Taken, Already), a question (Verdict, Wait) and a gossip (Gossiped), and the refusal's number.
-#[derive(Drop)]
+#[derive(Clone, Copy)]
 pub enum Reply {
     Taken(Parts),
     Already(Parts),

@@ -1,5 +1,7 @@
 // Requests: what a screen is sent, each kind with its reader and its writer. A gossip message is a head and then
 // records.
+#![tactic(auto)]
+
 ghost use Rattle.std.specs.Prelude.{◌≡◌, ◌∷◌, ◌+◌, ◌≤◌, leb, length};
 ghost use Rattle.lists.specs.Part.{patch};
 ghost use Rattle.limits.specs.Limits.{log_room};

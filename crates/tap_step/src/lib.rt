@@ -32,7 +32,7 @@ use stamp::{Parts, part_at, parts_at, sum};
 use tally::{Tap, pack};
 
 // The reply that stops a tap, or the tap and its label, which may be taken.
-#[derive(Drop)]
+#[derive(Clone, Copy)]
 pub enum TapStop {
     Stopped(Reply),
     Clear { tap: Tap, label: Parts },

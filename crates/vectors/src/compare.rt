@@ -3,7 +3,7 @@ ghost use Rattle.std.specs.Prelude.{◌≡◌, ◌≤◌, length};
 ghost use Rattle.vectors.specs.Compare.{alike, compared_at, ended_by};
 
 // The same up to this place, or different at it: a byte differs there, or one of the two ends there.
-#[derive(Drop)]
+#[derive(Clone, Copy)]
 pub enum Outcome {
     Same(usize),
     Differs(usize),

@@ -5,21 +5,21 @@ ghost use Rattle.vectors.specs.File.{field_at, entry_at};
 use numbers::number_at;
 
 // The bytes from the first place up to the second.
-#[derive(Drop)]
+#[derive(Clone, Copy)]
 pub struct Part {
     pub start: usize,
     pub end: usize,
 }
 
 // A field's bytes, or that the file ends inside it or the field is too long.
-#[derive(Drop)]
+#[derive(Clone, Copy)]
 enum Field {
     Stands(Part),
     Broken,
 }
 
 // A vector's fields; or the byte 0 that ends the file; or that there is neither.
-#[derive(Drop)]
+#[derive(Clone, Copy)]
 pub enum NextVector {
     Vector {
         name: Part,

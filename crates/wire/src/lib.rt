@@ -1,4 +1,6 @@
 // The wire's kinds of message: what each says, how long it is, and the two steps that every reader and writer takes.
+#![tactic(auto)]
+
 ghost use Rattle.std.specs.Prelude.{◌≡◌};
 ghost use Rattle.stamp.specs.Stamp.{total};
 ghost use Rattle.wire.specs.Kinds.{body_by, shaped};
@@ -11,7 +13,7 @@ use stamp::Parts;
 use tally::Tap;
 
 // What a message says, in the order of the kinds; or that the bytes are refused.
-#[derive(Drop)]
+#[derive(Clone, Copy)]
 pub enum Said {
     Head {
         sender: u64,
@@ -57,14 +59,14 @@ pub enum Said {
 }
 
 // How many bytes were written, or the refusal's number.
-#[derive(Drop)]
+#[derive(Clone, Copy)]
 pub enum Written {
     Wrote(usize),
     Refused(u64),
 }
 
 // How long a kind's body is, or that there is no such kind.
-#[derive(Drop)]
+#[derive(Clone, Copy)]
 pub enum BodyLength {
     Long(usize),
     Bad(u64),
