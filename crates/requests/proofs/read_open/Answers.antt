@@ -1,0 +1,30 @@
+-- `requests::read_open` meets its contract. Assumes nothing.
+use mathlib.Core.Path.{◌≡◌, refl}
+use mathlib.Core.Bool.{true}
+use native.Mathlib.Omega.{arith}
+use Rattle.wire.specs.Kinds.{shaped, body_by, open_kind}
+use Rattle.wire.specs.Read.{line_of}
+use Rattle.wire.specs.Returns.{failed, passed, shaped-long, not-shaped, kept}
+use Rattle.requests.proofs.read_open.Goals as goal
+
+pub returns-then-not-is_kind : goal.returns-then-not-is_kind
+unfolding open_kind
+returns-then-not-is_kind c = not-shaped open_kind _ (failed c.is_kind.ensures c.if-not-is_kind.true-raw)
+
+pub read_fields-requires : goal.read_fields-requires
+unfolding body_by
+read_fields-requires c =
+    let shape : shaped 11 c.args.msg.now ≡ true =
+    passed c.is_kind.ensures c.if-not-is_kind.false-raw in
+    record {
+      v_len = refl;
+      ws_in_bounds = omega (arith, shaped-long 11 2 c.args.msg.now refl (shape));
+      t = tt;
+    }
+
+pub returns : goal.returns
+unfolding open_kind line_of
+returns c =
+    let shape : shaped 11 c.args.msg.now ≡ true =
+    passed c.is_kind.ensures c.if-not-is_kind.false-raw in
+    kept open_kind _ _ (shape) c.read_fields.ensures refl

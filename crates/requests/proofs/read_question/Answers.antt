@@ -1,0 +1,45 @@
+-- `requests::read_question` meets its contract. Assumes nothing.
+use mathlib.Core.Path.{◌≡◌, refl}
+use mathlib.Core.Bool.{true}
+use native.Mathlib.Omega.{arith}
+use Rattle.stamp.specs.Parts.{list_of, parts_at}
+use Rattle.stamp.specs.Stamp.{total}
+use Rattle.limits.specs.KindNumbers.{question_number}
+use Rattle.wire.specs.Kinds.{shaped, body_by, question_body, question_kind}
+use Rattle.wire.specs.Read.{line_of}
+use Rattle.wire.specs.Returns.{failed, passed, shaped-long, not-shaped, not-kept, kept}
+use Rattle.requests.proofs.read_question.Goals as goal
+
+pub returns-then-not-is_kind : goal.returns-then-not-is_kind
+unfolding question_kind
+returns-then-not-is_kind c = not-shaped (question_kind _) _ (failed c.is_kind.ensures c.if-not-is_kind.true-raw)
+
+pub read_fields-requires : goal.read_fields-requires
+unfolding body_by
+read_fields-requires c =
+    let shape : shaped question_number c.args.msg.now ≡ true =
+    passed c.is_kind.ensures c.if-not-is_kind.false-raw in
+    let bytes = c.args.msg.now in
+    let long = shaped-long question_number (total question_body) bytes refl (shape) in
+    rw c.question_widths-ws.ensures (record {
+      v_len = refl;
+      ws_in_bounds = omega (arith, long);
+      t = tt;
+    })
+
+pub returns-then-not-question_fits : goal.returns-then-not-question_fits
+unfolding question_kind line_of parts_at list_of
+returns-then-not-question_fits c =
+    let shape : shaped question_number c.args.msg.now ≡ true =
+    passed c.is_kind.ensures c.if-not-is_kind.false-raw in
+    not-kept (question_kind _) _ _ (shape) (rw c.question_widths-ws.ensures at c.read_fields.ensures)
+    (rw c.parts_at-label.ensures at (failed c.question_fits.ensures c.if-not-question_fits.true-raw))
+
+pub returns : goal.returns
+unfolding question_kind line_of parts_at list_of
+returns c =
+    let shape : shaped question_number c.args.msg.now ≡ true =
+    passed c.is_kind.ensures c.if-not-is_kind.false-raw in
+    rw c.parts_at-label.ensures
+    (kept (question_kind _) _ _ (shape) (rw c.question_widths-ws.ensures at c.read_fields.ensures)
+    (rw c.parts_at-label.ensures at (passed c.question_fits.ensures c.if-not-question_fits.false-raw)))
