@@ -1,4 +1,6 @@
 // Replies: the six messages that a screen answers with, each with its reader and its writer.
+#![tactic(auto)]
+
 ghost use Rattle.std.specs.Prelude.{◌≡◌, ◌∷◌, leb};
 ghost use Rattle.stamp.specs.Parts.{list_of};
 ghost use Rattle.wire.specs.Kinds.{stamp_body, verdict_body, in_table};
@@ -272,6 +274,7 @@ pub fn write_gossip_taken(new: u64, applied: u64, out: &mut [u8]) -> Written
 }
 
 // Whether a reader's answer is a message.
+#[tactic(auto, unfolding(crate::specs::Which::is_message))]
 fn is_message(said: Said) -> bool
     ensures { result ≡ is_message said }
 {

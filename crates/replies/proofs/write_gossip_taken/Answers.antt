@@ -1,0 +1,9 @@
+-- `replies::write_gossip_taken` meets its contract. Assumes nothing.
+use mathlib.Core.Path.{refl}
+use Rattle.wire.specs.Returns.{put}
+use Rattle.wire.specs.Kinds.{gossip_taken_kind}
+use Rattle.replies.proofs.write_gossip_taken.Goals as goal
+
+pub returns : goal.returns
+unfolding gossip_taken_kind
+returns c = put gossip_taken_kind _ _ refl _ _ refl c.put_line.ensures

@@ -1,0 +1,9 @@
+-- `replies::write_wait` meets its contract. Assumes nothing.
+use mathlib.Core.Path.{refl}
+use Rattle.wire.specs.Returns.{put}
+use Rattle.wire.specs.Kinds.{wait_kind}
+use Rattle.replies.proofs.write_wait.Goals as goal
+
+pub returns : goal.returns
+unfolding wait_kind
+returns c = put wait_kind _ _ refl _ _ refl c.put_line.ensures
