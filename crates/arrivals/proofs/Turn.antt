@@ -22,8 +22,8 @@ use Rattle.tally.specs.WordLaws.{fits_bits}
 use Rattle.tally.specs.declared.Tap.{Tap}
 use Rattle.ledger.specs.Log.{unknowns}
 use Rattle.ledger.specs.Record.{Record, place, is_known}
-use Rattle.log.specs.Region.{stamp_long}
-use Rattle.log.specs.Held.{climbed, climb, holds_all, climb-holds}
+use Rattle.book_log.specs.Region.{stamp_long}
+use Rattle.book_log.specs.Held.{climbed, climb, holds_all, climb-holds}
 use Rattle.log_edit.specs.OrderLaws.{keep_append}
 use Rattle.wire.specs.Kinds.{Kind, record_kind, tap_at, head_long, record_long}
 use Rattle.wire.specs.Laws.{lawful_record}

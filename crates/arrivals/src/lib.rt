@@ -5,14 +5,14 @@ ghost use Rattle.lists.specs.TestLaws.{bit};
 ghost use Rattle.stamp.specs.Parts.{list_of};
 ghost use Rattle.ledger.specs.Log.{unknowns};
 ghost use Rattle.ledger.specs.Record.{is_known};
-ghost use Rattle.log.specs.Region.{row_long, stamp_long, record_at, records_at};
-ghost use Rattle.log.specs.Held.{climb, holds_all};
+ghost use Rattle.book_log.specs.Region.{row_long, stamp_long, record_at, records_at};
+ghost use Rattle.book_log.specs.Held.{climb, holds_all};
 ghost use Rattle.log_edit.specs.Merge.{Fresh, merged};
 ghost use Rattle.wire.specs.Head.{count_in};
 ghost use Rattle.message.specs.Message.{records_in};
 ghost use Rattle.arrivals.specs.Head.{Head, record_no};
 
-use log::{ROW, climb_row, first_at_most, is_known, make_row};
+use book_log::{ROW, climb_row, first_at_most, is_known, make_row};
 use log_edit::slide_in;
 use message::record_at;
 use stamp::{Parts, list_of, parts_at};

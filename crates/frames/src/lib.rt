@@ -1,4 +1,6 @@
 // The next message of standard input: how many bytes it has, as far as what is read tells, and whether it is whole.
+#![tactic(auto)]
+
 ghost use Rattle.std.specs.Prelude.{◌≡◌, ◌≤◌, ◌<◌, length};
 ghost use Rattle.limits.specs.Limits.{log_room};
 ghost use Rattle.frames.specs.Frame.{expected, gossip_frame, frame_of};

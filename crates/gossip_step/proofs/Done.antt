@@ -17,7 +17,7 @@ use Rattle.meaning.specs.BookLaws.{Sound, me_in}
 use Rattle.meaning.specs.SettleLaws as meaning
 use Rattle.meaning.specs.Step.{now_ready, now_applied, new_ones, gossip_rows, hear_book}
 use Rattle.meaning.specs.StepLaws.{GossipDone, gossip-now, gossip-ready}
-use Rattle.log.specs.Region.{stamp_long}
+use Rattle.book_log.specs.Region.{stamp_long}
 use Rattle.lent.specs.Held.{Held, held_is, book_is}
 use Rattle.lent.specs.SoundWords.{lawful-sound}
 use Rattle.lent.specs.With.{with_table, with_log}

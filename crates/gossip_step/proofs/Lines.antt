@@ -15,8 +15,8 @@ use Rattle.limits.specs.Limits.{log_room}
 use Rattle.stamp.specs.Stamp.{Stamp}
 use Rattle.ledger.specs.Log.{unknowns, gapless}
 use Rattle.ledger.specs.Record.{Record}
-use Rattle.log.specs.Region.{stamp_long}
-use Rattle.log.specs.Held.{holds_all, gapless-climb}
+use Rattle.book_log.specs.Region.{stamp_long}
+use Rattle.book_log.specs.Held.{holds_all, gapless-climb}
 use Rattle.message.specs.Message.{records_in, message_of}
 use Rattle.meaning.specs.Book.{known, sound}
 use Rattle.meaning.specs.BookLaws.{at-sound}

@@ -3,7 +3,7 @@ ghost use Rattle.std.specs.Prelude.{◌≡◌, ◌<◌, ◌+◌, ◌-◌, ◌*�
 ghost use Rattle.lists.specs.Tests.{every, first_of};
 ghost use Rattle.limits.specs.Limits.{word, log_room};
 ghost use Rattle.stamp.specs.Stamp.{stamp_fits, merge, total};
-ghost use Rattle.log.specs.Region.{stamp_long, row_long, records_at};
+ghost use Rattle.book_log.specs.Region.{stamp_long, row_long, records_at};
 ghost use Rattle.meaning.specs.Book.{row, known};
 ghost use Rattle.lent.specs.Words.{book_of, lawful, words_of};
 ghost use Rattle.gossip_step.specs.Refusals.{row_refusal, own_refusal, stamp_refusal};

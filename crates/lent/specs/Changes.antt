@@ -18,8 +18,8 @@ use Rattle.tally.specs.Tap.{fields, tap_of}
 use Rattle.tally.specs.declared.Standing.{Standing}
 use Rattle.ledger.specs.Log.{gathered, remaining}
 use Rattle.ledger.specs.Record.{Record}
-use Rattle.log.specs.Lowest.{lowest_from}
-use Rattle.log.specs.Region.{row_long, records_at, log_words}
+use Rattle.book_log.specs.Lowest.{lowest_from}
+use Rattle.book_log.specs.Region.{row_long, records_at, log_words}
 use Rattle.log_edit.specs.Merge.{Fresh, merged, stayers, dropped}
 use Rattle.log_edit.specs.MergeLaws.{length-gathered}
 use Rattle.log_edit.specs.WordLaws.{stayers-remaining, dropped-words, merged-words}

@@ -15,7 +15,7 @@ use Rattle.stamp.specs.Stamp.{Stamp}
 use Rattle.tally.specs.declared.Standing.{Standing}
 use Rattle.tally.specs.declared.Tap.{Tap}
 use Rattle.ledger.specs.Record.{Record}
-use Rattle.log.specs.Region.{log_words}
+use Rattle.book_log.specs.Region.{log_words}
 use Rattle.taps.specs.Region.{tap_words}
 use Rattle.prompts.specs.Region.{standing_words}
 use Rattle.meaning.specs.Book.{Book}

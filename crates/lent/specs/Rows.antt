@@ -17,8 +17,8 @@ use Rattle.stamp.specs.Parts.{parts_at, list_of}
 use Rattle.stamp.specs.PartsLaws.{list-parts}
 use Rattle.stamp.specs.Stamp.{Stamp}
 use Rattle.ledger.specs.Record.{Record}
-use Rattle.log.specs.Region.{row_long, record_at, records_at, body_place}
-use Rattle.log.specs.RegionLaws.{length-records}
+use Rattle.book_log.specs.Region.{row_long, record_at, records_at, body_place}
+use Rattle.book_log.specs.RegionLaws.{length-records}
 use Rattle.meaning.specs.Book.{row}
 use Rattle.lent.specs.Held.{Held, piece-within, piece-words, put-table}
 use Rattle.lent.specs.With.{with_table}

@@ -8,7 +8,7 @@ use Rattle.stamp.specs.Stamp.{Stamp}
 use Rattle.tally.specs.declared.Standing.{Standing}
 use Rattle.tally.specs.declared.Tap.{Tap}
 use Rattle.ledger.specs.Record.{Record}
-use Rattle.log.specs.RegionLaws.{whole_label}
+use Rattle.book_log.specs.RegionLaws.{whole_label}
 use Rattle.taps.specs.RegionLaws.{AllFit}
 use Rattle.meaning.specs.Book.{Book}
 use Rattle.lent.specs.With.{with_table, with_value, with_log, with_counted, with_prompts}

@@ -14,7 +14,7 @@ use Rattle.tally.specs.WordLaws.{fits_bits}
 use Rattle.ledger.specs.LimitLaws.{range-most}
 use Rattle.ledger.specs.Record.{Record, record_fits}
 use Rattle.ledger.specs.RecordLaws.{obeys}
-use Rattle.log.specs.RegionLaws.{whole_label}
+use Rattle.book_log.specs.RegionLaws.{whole_label}
 use Rattle.meaning.specs.Book.{Book, sound}
 use Rattle.meaning.specs.BookLaws.{Sound, sound-at, at-sound, counted-few, prompts-long}
 use Rattle.lent.specs.Words.{words_of, book_of, in_shape, lawful}

@@ -7,7 +7,7 @@ use Rattle.lists.specs.Rows.{rows, flat}
 use Rattle.lists.specs.Tests.{all, every}
 use Rattle.limits.specs.Limits.{parts, most, log_room, book_room, prompt_count}
 use Rattle.stamp.specs.Stamp.{Stamp}
-use Rattle.log.specs.Region.{row_long, records_at, log_words}
+use Rattle.book_log.specs.Region.{row_long, records_at, log_words}
 use Rattle.taps.specs.Region.{taps_at, tap_words}
 use Rattle.prompts.specs.Region.{prompt_words, standings_at, standing_words}
 use Rattle.meaning.specs.Book.{Book, sound}

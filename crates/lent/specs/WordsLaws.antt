@@ -21,8 +21,8 @@ use Rattle.stamp.specs.Stamp.{Stamp}
 use Rattle.tally.specs.Tap.{word_of}
 use Rattle.tally.specs.declared.Tap.{Tap}
 use Rattle.ledger.specs.Record.{Record}
-use Rattle.log.specs.Region.{row_long, row_of, records_at, log_words}
-use Rattle.log.specs.RegionLaws.{whole_label, wide-records, length-records, records-words, length-log, words-records}
+use Rattle.book_log.specs.Region.{row_long, row_of, records_at, log_words}
+use Rattle.book_log.specs.RegionLaws.{whole_label, wide-records, length-records, records-words, length-log, words-records}
 use Rattle.taps.specs.Region.{taps_at, tap_words}
 use Rattle.taps.specs.RegionLaws.{length-taps, length-words, taps-words, words-taps}
 use Rattle.prompts.specs.Region.{standings_at, standing_words}

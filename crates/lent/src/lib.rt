@@ -8,9 +8,9 @@ ghost use Rattle.stamp.specs.Stamp.{merge, replace};
 ghost use Rattle.tally.specs.Standing.{CountsFit, among, blank};
 ghost use Rattle.tally.specs.Tap.{fields, tap_of};
 ghost use Rattle.ledger.specs.Log.{gathered, remaining};
-ghost use Rattle.log.specs.First.{first_with};
-ghost use Rattle.log.specs.Lowest.{lowest_from};
-ghost use Rattle.log.specs.Region.{row_long, record_at, records_at};
+ghost use Rattle.book_log.specs.First.{first_with};
+ghost use Rattle.book_log.specs.Lowest.{lowest_from};
+ghost use Rattle.book_log.specs.Region.{row_long, record_at, records_at};
 ghost use Rattle.log_edit.specs.Merge.{Fresh, merged, stayers, dropped};
 ghost use Rattle.taps.specs.Region.{taps_at, inserted_at};
 ghost use Rattle.prompts.specs.Region.{prompt_words, standings_at, standing_words, noted_at};
@@ -23,7 +23,7 @@ ghost use Rattle.lent.specs.Words.{Logged, Table, Value, Log, Counted, Prompts, 
 ghost use Rattle.lent.specs.Words.{book_of, words_of};
 
 use limits::{BOOK_ROOM, LOG_ROOM, MOST, PARTS};
-use log::{BODY, LABEL, NUMBER, ORIGIN, ROW, find_body, lowest, make_row};
+use book_log::{BODY, LABEL, NUMBER, ORIGIN, ROW, find_body, lowest, make_row};
 use log_edit::{drop_rows, put_one};
 use prompts::{PROMPT_WORDS, note, standing_at};
 use stamp::{Parts, list_of, merge_into, parts_at};

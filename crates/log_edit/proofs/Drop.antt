@@ -11,10 +11,10 @@ use Rattle.lists.specs.Part.{mid, patch, length-mid, length-patch, mid-patch, dr
 use Rattle.lists.specs.Rows.{rows}
 use Rattle.stamp.specs.Stamp.{Stamp}
 use Rattle.ledger.specs.Record.{Record}
-use Rattle.log.specs.Region.{row_long, record_at, records_at}
-use Rattle.log.specs.RegionLaws.{length-records}
-use Rattle.log.specs.Lowest.{goes_by}
-use Rattle.log.specs.Walk.{records_from, row_record, records-all, records-next, records-none}
+use Rattle.book_log.specs.Region.{row_long, record_at, records_at}
+use Rattle.book_log.specs.RegionLaws.{length-records}
+use Rattle.book_log.specs.Lowest.{goes_by}
+use Rattle.book_log.specs.Walk.{records_from, row_record, records-all, records-next, records-none}
 use Rattle.log_edit.specs.Merge.{stayers, dropped}
 use Rattle.log_edit.specs.RowLaws.{records_snoc, records-same, take-before, flat-records}
 

@@ -17,8 +17,8 @@ use Rattle.lists.specs.Neighbours.{rising-front}
 use Rattle.lists.specs.Part.{mid, patch, length-patch, drop-patch}
 use Rattle.lists.specs.Rows.{rows}
 use Rattle.ledger.specs.Record.{Record, place}
-use Rattle.log.specs.Region.{row_long, record_at, records_at}
-use Rattle.log.specs.Walk.{records_from, row_record, records-next, records-none}
+use Rattle.book_log.specs.Region.{row_long, record_at, records_at}
+use Rattle.book_log.specs.Walk.{records_from, row_record, records-next, records-none}
 use Rattle.log_edit.specs.Merge.{before_of, after_of, Parted, Shifted, Slid}
 use Rattle.log_edit.specs.OrderLaws.{rising_across}
 use Rattle.log_edit.specs.MergeLaws.{parted}

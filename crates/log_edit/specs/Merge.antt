@@ -8,9 +8,9 @@ use Rattle.lists.specs.Tests.{keep}
 use Rattle.stamp.specs.Stamp.{Stamp}
 use Rattle.ledger.specs.Record.{Record, place}
 use Rattle.ledger.specs.Log.{gathered}
-use Rattle.log.specs.Lowest.{goes_by}
-use Rattle.log.specs.Region.{row_long, record_at, row_of, records_at}
-use Rattle.log.specs.Walk.{records_from}
+use Rattle.book_log.specs.Lowest.{goes_by}
+use Rattle.book_log.specs.Region.{row_long, record_at, row_of, records_at}
+use Rattle.book_log.specs.Walk.{records_from}
 
 -- the records that stand after x, and the others
 unfoldable pub after_of : Record → List Record → List Record

@@ -3,7 +3,7 @@
 use Rattle.std.specs.Prelude.{ℕ, ◌-◌, ◌*◌, ◌≤◌, ◌≡◌, refl, List, [], ◌∷◌, ◌++◌, length}
 use Rattle.std.proofs.Common.{arith, sym, ◌∙◌}
 use Rattle.ledger.specs.Record.{Record}
-use Rattle.log.specs.Region.{row_long, record_at, records_at}
+use Rattle.book_log.specs.Region.{row_long, record_at, records_at}
 use Rattle.log_edit.specs.Merge.{Fresh, Slid, merged}
 use Rattle.log_edit.specs.WordLaws.{merged-turn, fresh-turn, merged-end}
 

@@ -12,9 +12,9 @@ use Rattle.std.proofs.lemmas.List.{take-append-le, drop-append-le}
 use Rattle.lists.specs.Part.{mid, patch, mid-patch-before}
 use Rattle.lists.specs.Rows.{rows, flat}
 use Rattle.ledger.specs.Record.{Record}
-use Rattle.log.specs.Region.{row_long, record_at, row_of, records_at}
-use Rattle.log.specs.RegionLaws.{row_record_lem}
-use Rattle.log.specs.Walk.{records_from, row_record}
+use Rattle.book_log.specs.Region.{row_long, record_at, row_of, records_at}
+use Rattle.book_log.specs.RegionLaws.{row_record_lem}
+use Rattle.book_log.specs.Walk.{records_from, row_record}
 
 pub records_add : (n m : ℕ) (l : List ℕ) → records_at (n + m) l ≡ records_at n l ++ records_at m (drop (n * row_long) l)
 unfolding records_at rows

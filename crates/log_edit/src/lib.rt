@@ -3,12 +3,12 @@ ghost use Rattle.std.specs.Prelude.{◌≡◌, [], ◌∷◌, ◌++◌, ◌+◌,
 ghost use Rattle.lists.specs.Order.{key_before, rising};
 ghost use Rattle.lists.specs.Part.{mid, patch};
 ghost use Rattle.ledger.specs.Record.{place};
-ghost use Rattle.log.specs.Region.{row_long, stamp_long, record_at, records_at};
-ghost use Rattle.log.specs.Lowest.{goes_by};
-ghost use Rattle.log.specs.Walk.{row_record};
+ghost use Rattle.book_log.specs.Region.{row_long, stamp_long, record_at, records_at};
+ghost use Rattle.book_log.specs.Lowest.{goes_by};
+ghost use Rattle.book_log.specs.Walk.{row_record};
 ghost use Rattle.log_edit.specs.Merge.{Fresh, Parted, Shifted, Slid, merged, Closed};
 
-use log::{ROW, goes, stands_before};
+use book_log::{ROW, goes, stands_before};
 use stamp::copy;
 
 // Whether the i-th row of r stands after a row.

@@ -1,4 +1,6 @@
 // The gossip message: its reader, and its records as parts of it.
+#![tactic(auto)]
+
 ghost use Rattle.std.specs.Prelude.{◌≡◌, ◌∷◌, [], ◌+◌, ◌*◌, ◌≤◌, length};
 ghost use Rattle.lists.specs.Order.{key_before};
 ghost use Rattle.stamp.specs.Parts.{list_of};

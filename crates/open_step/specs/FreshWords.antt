@@ -9,7 +9,7 @@ use Rattle.lists.specs.Pieces.{sum_of}
 use Rattle.lists.specs.Rows.{flat}
 use Rattle.limits.specs.Limits.{parts, most, log_room, book_room}
 use Rattle.stamp.specs.Stamp.{zeros}
-use Rattle.log.specs.Region.{row_long, log_words}
+use Rattle.book_log.specs.Region.{row_long, log_words}
 use Rattle.taps.specs.Region.{tap_words}
 use Rattle.prompts.specs.RegionLaws.{words-fresh}
 use Rattle.meaning.specs.Book.{fresh}

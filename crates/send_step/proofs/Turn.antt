@@ -17,7 +17,7 @@ use Rattle.tally.specs.Tap.{fields, tap_of}
 use Rattle.tally.specs.declared.Tap.{Tap}
 use Rattle.ledger.specs.Message.{message_fits}
 use Rattle.ledger.specs.Record.{Record}
-use Rattle.log.specs.Region.{row_long, record_at, body_place}
+use Rattle.book_log.specs.Region.{row_long, record_at, body_place}
 use Rattle.wire.specs.Kinds.{Kind, size_of, head_kind, record_kind, head_long, record_long}
 use Rattle.wire.specs.Returns.{meets}
 use Rattle.wire.specs.Said.{figures}

@@ -2,7 +2,7 @@
 ghost use Rattle.std.specs.Prelude.{◌≡◌, ◌+◌, ◌-◌, ◌≤◌, ◌<◌, T, length, get_or};
 ghost use Rattle.lists.specs.Part.{patch};
 ghost use Rattle.stamp.specs.Parts.{list_of};
-ghost use Rattle.log.specs.Region.{row_long, record_at};
+ghost use Rattle.book_log.specs.Region.{row_long, record_at};
 ghost use Rattle.wire.specs.Kinds.{record_kind, head_long, record_long};
 ghost use Rattle.wire.specs.Write.{Meets, writable, written};
 ghost use Rattle.message.specs.Message.{line_for, message_bytes};
@@ -14,7 +14,7 @@ ghost use Rattle.promise.specs.Lent.{put_front};
 ghost use Rattle.send_step.specs.Parts.{start_at, record_bytes, with_head, with_records};
 
 use lent::{known_of, log_row, logged_of, screen_of, screens_of};
-use log::{BODY, LABEL, NUMBER, ORIGIN};
+use book_log::{BODY, LABEL, NUMBER, ORIGIN};
 use requests::{write_head, write_record};
 use stamp::{Parts, parts_at};
 use tally::unpack;

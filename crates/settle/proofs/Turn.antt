@@ -18,7 +18,7 @@ use Rattle.tally.specs.Tap.{fields, tap_of}
 use Rattle.tally.specs.declared.Tap.{Tap}
 use Rattle.ledger.specs.Record.{Record, stamp_of, is_applied}
 use Rattle.ledger.specs.Log.{newly_applied, remaining}
-use Rattle.log.specs.Region.{record_at, row_long}
+use Rattle.book_log.specs.Region.{record_at, row_long}
 use Rattle.taps.specs.RegionLaws.{length-insert}
 use Rattle.prompts.specs.Region.{noted_at}
 use Rattle.prompts.specs.RegionLaws.{length-noted}

@@ -5,7 +5,7 @@ ghost use Rattle.lists.specs.TestLaws.{bit};
 ghost use Rattle.tally.specs.Tap.{tap_of};
 ghost use Rattle.ledger.specs.Log.{newly_applied};
 ghost use Rattle.ledger.specs.Record.{stamp_of};
-ghost use Rattle.log.specs.Region.{row_long, stamp_long, record_at};
+ghost use Rattle.book_log.specs.Region.{row_long, stamp_long, record_at};
 ghost use Rattle.meaning.specs.Book.{ready};
 ghost use Rattle.lent.specs.Held.{Held};
 ghost use Rattle.lent.specs.Rows.{no_record};
@@ -15,7 +15,7 @@ ghost use Rattle.settle.specs.Ready.{Countable, Applicable, Appliable};
 
 use lent::{drop_log, insert_tap, is_counted, log_row, logged_of, merge_value, note_tap, ready_of};
 use limits::PARTS;
-use log::{BODY, LABEL, NUMBER, ORIGIN, is_applied};
+use book_log::{BODY, LABEL, NUMBER, ORIGIN, is_applied};
 use stamp::{list_of, parts_at, replace_part};
 
 // Counts the tap of w, unless it is counted.

@@ -16,7 +16,7 @@ use Rattle.lists.specs.Tests.{every}
 use Rattle.limits.specs.Limits.{parts}
 use Rattle.stamp.specs.Stamp.{stamp_fits}
 use Rattle.ledger.specs.Record.{Record}
-use Rattle.log.specs.Region.{row_long, record_at, records_at}
+use Rattle.book_log.specs.Region.{row_long, record_at, records_at}
 
 -- a test of the rows from the i-th of n on, which starts at a place
 unfoldable pub every_from : (List ℕ → Bool) → ℕ → ℕ → List ℕ → ℕ → ℕ → Bool

@@ -13,10 +13,10 @@ use Rattle.tally.specs.declared.Standing.{Standing}
 use Rattle.tally.specs.declared.Tap.{Tap}
 use Rattle.ledger.specs.Log.{waiting_in}
 use Rattle.ledger.specs.Record.{Record, place, is_applied}
-use Rattle.log.specs.Held.{holds_all}
-use Rattle.log.specs.Lowest.{lowest_from}
-use Rattle.log.specs.Region.{records_at}
-use Rattle.log.specs.RowSound.{row_sound}
+use Rattle.book_log.specs.Held.{holds_all}
+use Rattle.book_log.specs.Lowest.{lowest_from}
+use Rattle.book_log.specs.Region.{records_at}
+use Rattle.book_log.specs.RowSound.{row_sound}
 use Rattle.taps.specs.Region.{taps_at}
 use Rattle.prompts.specs.Region.{standings_at}
 use Rattle.meaning.specs.Book.{counted_in}

@@ -24,10 +24,10 @@ use Rattle.ledger.specs.Log.{all_held}
 use Rattle.ledger.specs.Message.{in_range}
 use Rattle.ledger.specs.Record.{is_known, is_applied, may_go, record_fits, stamp_of}
 use Rattle.ledger.specs.LimitLaws.{range-me}
-use Rattle.log.specs.Held.{holds_all, all_held-climb}
-use Rattle.log.specs.Lowest.{lowest_from, goes_by, may_go_lowest}
-use Rattle.log.specs.RegionLaws.{length-records}
-use Rattle.log.specs.RowSound.{row_sound, rows_sound_is, record_fits_is}
+use Rattle.book_log.specs.Held.{holds_all, all_held-climb}
+use Rattle.book_log.specs.Lowest.{lowest_from, goes_by, may_go_lowest}
+use Rattle.book_log.specs.RegionLaws.{length-records}
+use Rattle.book_log.specs.RowSound.{row_sound, rows_sound_is, record_fits_is}
 use Rattle.meaning.specs.Book.{Book, known, ready, row, waiting, clauses, sound}
 use Rattle.meaning.specs.ReadyKnown.{ready-known}
 use Rattle.lent.specs.Lay.{at_place}

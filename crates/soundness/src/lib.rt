@@ -8,8 +8,8 @@ ghost use Rattle.stamp.specs.Stamp.{at_most, total, stamp_fits};
 ghost use Rattle.tally.specs.Body.{body_fits};
 ghost use Rattle.ledger.specs.Log.{waiting_in};
 ghost use Rattle.ledger.specs.Record.{is_applied};
-ghost use Rattle.log.specs.Lowest.{lowest_from};
-ghost use Rattle.log.specs.Region.{row_long, record_at, records_at};
+ghost use Rattle.book_log.specs.Lowest.{lowest_from};
+ghost use Rattle.book_log.specs.Region.{row_long, record_at, records_at};
 ghost use Rattle.taps.specs.Region.{taps_at};
 ghost use Rattle.prompts.specs.Region.{prompt_words, standings_at};
 ghost use Rattle.meaning.specs.Book.{counted_in};
@@ -23,7 +23,7 @@ use lent::{
     value_words,
 };
 use limits::{PARTS, book_room, log_room, most_screens};
-use log::{BODY, ROW, all_held, count_waiting, is_applied, lowest, rising_rows, rows_sound};
+use book_log::{BODY, ROW, all_held, count_waiting, is_applied, lowest, rising_rows, rows_sound};
 use prompts::counts_follow;
 use stamp::{at_most, fits, list_of, parts_at, sum, zero_from};
 use tally::unpack;

@@ -9,7 +9,7 @@ use Rattle.stamp.specs.Stamp.{Stamp, replace}
 use Rattle.tally.specs.Body.{Body}
 use Rattle.ledger.specs.Log.{gathered}
 use Rattle.ledger.specs.Record.{Record}
-use Rattle.log.specs.Region.{record_at}
+use Rattle.book_log.specs.Region.{record_at}
 use Rattle.log_edit.specs.Merge.{Fresh}
 use Rattle.meaning.specs.Book.{Book, known, ready}
 use Rattle.meaning.specs.BookLaws.{me_in}

@@ -15,7 +15,7 @@ use Rattle.tally.specs.Tap.{same_tap, tap_of}
 use Rattle.tally.specs.WordLaws.{tap-equal}
 use Rattle.tally.specs.declared.Tap.{Tap}
 use Rattle.ledger.specs.Record.{Record, stamp_of}
-use Rattle.log.specs.First.{first_with, first_found}
+use Rattle.book_log.specs.First.{first_with, first_found}
 use Rattle.meaning.specs.Book.{holds}
 use Rattle.meaning.specs.Step.{first_stamp}
 

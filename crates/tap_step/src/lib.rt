@@ -8,7 +8,7 @@ ghost use Rattle.stamp.specs.Stamp.{part, stamp_fits, total};
 ghost use Rattle.tally.specs.Body.{body_of, body_fits};
 ghost use Rattle.tally.specs.Tap.{tap_fits};
 ghost use Rattle.ledger.specs.Record.{stamp_of};
-ghost use Rattle.log.specs.Region.{row_long, stamp_long, record_at};
+ghost use Rattle.book_log.specs.Region.{row_long, stamp_long, record_at};
 ghost use Rattle.meaning.specs.Book.{known};
 ghost use Rattle.meaning.specs.Step.{new_record, take_book, tap_stops, tap_step};
 ghost use Rattle.meaning.specs.StepLaws.{TakeDone};
@@ -25,7 +25,7 @@ use lent::{
     screen_of, value_of,
 };
 use limits::{book_room, log_room};
-use log::{NUMBER, ROW, make_row};
+use book_log::{NUMBER, ROW, make_row};
 use promise::{NO_ROOM, Reply, SPENT, UNKNOWN_LABEL};
 use settle::{row_stamp, settle_book};
 use stamp::{Parts, part_at, parts_at, sum};

@@ -1,4 +1,6 @@
 // The counted taps in their region of a book: one word for each, the first n in use, strictly rising.
+#![tactic(auto)]
+
 ghost use Rattle.std.specs.Prelude.{◌≡◌, not, ◌≤◌, ◌<◌, T, length};
 ghost use Rattle.lists.specs.Order.{rising};
 ghost use Rattle.lists.specs.Tests.{every};

@@ -2,7 +2,7 @@
 use mathlib.Core.Path.{ap, ◌∙◌}
 use Rattle.stamp.specs.Parts.{list_of}
 use Rattle.stamp.specs.Stamp.{Stamp}
-use Rattle.log.specs.Held.{climb}
+use Rattle.book_log.specs.Held.{climb}
 use Rattle.message.specs.Message.{records_in}
 use Rattle.arrivals.proofs.Turn.{look-whole}
 use borrow.Author.Rules.{rules}

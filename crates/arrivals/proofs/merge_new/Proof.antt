@@ -6,7 +6,7 @@ use mathlib.Core.List.{List, [], ◌∷◌, ◌++◌}
 use lib.ListN.{length, take, length-append}
 use Rattle.ledger.specs.Log.{unknowns}
 use Rattle.ledger.specs.Record.{Record}
-use Rattle.log.specs.Region.{record_at, row_long}
+use Rattle.book_log.specs.Region.{record_at, row_long}
 use Rattle.log_edit.specs.Merging.{Merging, merging_start, merging-turn, merging-end}
 use Rattle.message.specs.Message.{records_in}
 use Rattle.arrivals.proofs.Turn.{all_left, none_left, skip-known, last-new}

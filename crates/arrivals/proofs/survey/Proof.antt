@@ -4,8 +4,8 @@ use native.Mathlib.Omega.{arith}
 use mathlib.Core.Path.{◌≡◌, refl, sym, ◌∙◌}
 use lib.ListN.{length, drop}
 use Rattle.ledger.specs.Log.{unknowns}
-use Rattle.log.specs.Region.{record_at}
-use Rattle.log.specs.Held.{climb}
+use Rattle.book_log.specs.Region.{record_at}
+use Rattle.book_log.specs.Held.{climb}
 use Rattle.wire.specs.Head.{count_in}
 use Rattle.message.specs.Message.{records_in}
 use Rattle.arrivals.proofs.Turn.{climb-more, new-more, climb-end, new-end}

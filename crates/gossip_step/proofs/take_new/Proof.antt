@@ -7,7 +7,7 @@ use lib.ListN.{set}
 use Rattle.lists.specs.Part.{mid, patch}
 use Rattle.limits.specs.LimitLaws.{log_small}
 use Rattle.ledger.specs.Log.{unknowns}
-use Rattle.log.specs.Region.{records_at}
+use Rattle.book_log.specs.Region.{records_at}
 use Rattle.log_edit.specs.Merge.{Fresh, merged}
 use Rattle.message.specs.Message.{records_in}
 use Rattle.lent.specs.Changes.{rows_fit, log_is, log-taken}

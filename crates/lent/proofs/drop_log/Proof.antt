@@ -6,7 +6,7 @@ use mathlib.Core.List.{List}
 use lib.ListN.{length, set}
 use Rattle.lists.specs.Part.{patch}
 use Rattle.log_edit.specs.Merge.{stayers, dropped}
-use Rattle.log.specs.Region.{records_at}
+use Rattle.book_log.specs.Region.{records_at}
 use Rattle.lent.specs.Changes.{log-dropped}
 use Rattle.lent.specs.Held.{held-long, piece-within}
 use Rattle.lent.specs.Words.{Logged, Log, size, from, piece}

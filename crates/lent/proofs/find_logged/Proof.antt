@@ -1,8 +1,8 @@
 -- `lent::find_logged` meets its contract. Assumes nothing.
 use native.Mathlib.Omega.{arith}
 use mathlib.Core.Path.{ap, ap₂, ◌∙◌}
-use Rattle.log.specs.First.{first_with}
-use Rattle.log.specs.Region.{records_at}
+use Rattle.book_log.specs.First.{first_with}
+use Rattle.book_log.specs.Region.{records_at}
 use Rattle.lent.specs.Changes.{log_is}
 use Rattle.lent.specs.Held.{held-long}
 use Rattle.lent.specs.Words.{size}

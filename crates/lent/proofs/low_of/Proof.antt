@@ -3,7 +3,7 @@ use native.Mathlib.Omega.{arith}
 use mathlib.Core.Path.{ap₂, ◌∙◌}
 use Rattle.limits.specs.Limits.{parts}
 use Rattle.lists.specs.Rows.{rows}
-use Rattle.log.specs.Lowest.{lowest_from}
+use Rattle.book_log.specs.Lowest.{lowest_from}
 use Rattle.lent.specs.Changes.{rows_are}
 use Rattle.lent.specs.Held.{held-long}
 use Rattle.lent.specs.Words.{size}

@@ -5,7 +5,7 @@ use mathlib.Core.Path.{refl, sym, ap, subst, ◌∙◌}
 use mathlib.Core.List.{List, [], ◌∷◌}
 use lib.ListN.{set}
 use Rattle.lists.specs.Part.{patch}
-use Rattle.log.specs.Region.{record_at, records_at}
+use Rattle.book_log.specs.Region.{record_at, records_at}
 use Rattle.log_edit.specs.Merge.{Fresh, merged}
 use Rattle.lent.specs.Changes.{log_is, log-taken}
 use Rattle.lent.specs.Held.{held-long, piece-within}

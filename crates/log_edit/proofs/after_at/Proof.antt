@@ -3,8 +3,8 @@ use Prim.Native.Nat.{◌*◌}
 use mathlib.Core.Path.{ap, ◌∙◌}
 use Rattle.lists.specs.Order.{key_before}
 use Rattle.ledger.specs.Record.{Record, place}
-use Rattle.log.specs.Region.{row_long, record_at}
-use Rattle.log.specs.Walk.{record-lent}
+use Rattle.book_log.specs.Region.{row_long, record_at}
+use Rattle.book_log.specs.Walk.{record-lent}
 use borrow.Author.Rules.{rules}
 use Rattle.log_edit.proofs.after_at.Statement.{statement}
 use Rattle.log_edit.proofs.after_at.Tie as tie

@@ -1,9 +1,9 @@
 -- `log_edit::goes_at` meets its contract. Assumes nothing.
 use Prim.Native.Nat.{◌*◌}
 use mathlib.Core.Path.{ap, ◌∙◌}
-use Rattle.log.specs.Region.{row_long}
-use Rattle.log.specs.Lowest.{goes_by}
-use Rattle.log.specs.Walk.{record-lent}
+use Rattle.book_log.specs.Region.{row_long}
+use Rattle.book_log.specs.Lowest.{goes_by}
+use Rattle.book_log.specs.Walk.{record-lent}
 use borrow.Author.Rules.{rules}
 use Rattle.log_edit.proofs.goes_at.Statement.{statement}
 use Rattle.log_edit.proofs.goes_at.Tie as tie

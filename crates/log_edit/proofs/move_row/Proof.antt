@@ -3,7 +3,7 @@ use Prim.Native.Nat.{◌+◌, ◌-◌, ◌*◌}
 use native.Mathlib.Omega.{arith}
 use mathlib.Core.Path.{◌≡◌, sym}
 use Rattle.lists.specs.Part.{mid}
-use Rattle.log.specs.Region.{row_long}
+use Rattle.book_log.specs.Region.{row_long}
 use Rattle.log_edit.proofs.Drop.{patch_self}
 use borrow.Author.Rules.{rules}
 use Rattle.log_edit.proofs.move_row.Statement.{statement}

@@ -3,7 +3,7 @@ use Prim.Native.Nat.{◌+◌, ◌-◌, ◌*◌}
 use native.Mathlib.Omega.{arith}
 use mathlib.Core.Path.{◌≡◌}
 use Rattle.lists.specs.Part.{patch}
-use Rattle.log.specs.Region.{row_long}
+use Rattle.book_log.specs.Region.{row_long}
 use borrow.Author.Rules.{rules}
 use Rattle.log_edit.proofs.put_row.Statement.{statement}
 use Rattle.log_edit.proofs.put_row.Tie as tie

@@ -3,7 +3,7 @@ use mathlib.Core.Path.{sym, ap, subst, ◌∙◌}
 use mathlib.Core.List.{[], ◌∷◌}
 use Rattle.stamp.specs.Stamp.{Stamp, merge}
 use Rattle.tally.specs.Tap.{tap_of}
-use Rattle.log.specs.Region.{record_at}
+use Rattle.book_log.specs.Region.{record_at}
 use Rattle.meaning.specs.Book.{Book}
 use Rattle.lent.specs.Held.{held_is, book_is}
 use Rattle.lent.specs.With.{with_value}

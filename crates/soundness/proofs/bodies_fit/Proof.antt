@@ -7,7 +7,7 @@ use borrow.Author.Tests.{not-true, not-false}
 use Rattle.lists.specs.Tests.{every}
 use Rattle.tally.specs.Body.{body_fits}
 use Rattle.ledger.specs.Record.{Record}
-use Rattle.log.specs.Region.{row_long, record_at, records_at}
+use Rattle.book_log.specs.Region.{row_long, record_at, records_at}
 use Rattle.soundness.proofs.Turn.{every_from, records-all, rows_on, rows-off, rows_end}
 use borrow.Author.Rules.{rules}
 use Rattle.soundness.proofs.bodies_fit.Statement.{statement}

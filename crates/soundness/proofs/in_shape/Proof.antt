@@ -7,7 +7,7 @@ use lib.ListN.{length, get_or}
 use borrow.Author.Tests.{lt-leb, not-true, not-false}
 use Rattle.limits.specs.LimitLaws.{log_small}
 use Rattle.limits.specs.Limits.{parts, most, log_room, book_room}
-use Rattle.log.specs.Region.{row_long}
+use Rattle.book_log.specs.Region.{row_long}
 use Rattle.lent.specs.Lay.{number_word}
 use Rattle.lent.specs.Words.{Screens, Logged, Taps, Table, Log, size, from, book_long, piece, number_in, zero_from}
 use Rattle.soundness.specs.SoundLaws.{shape-off, shape-short, shape-last}

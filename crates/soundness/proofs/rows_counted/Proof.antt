@@ -8,7 +8,7 @@ use mathlib.Core.List.{List}
 use borrow.Author.Tests.{not-true, not-false}
 use Rattle.lists.specs.Tests.{every}
 use Rattle.ledger.specs.Record.{is_applied}
-use Rattle.log.specs.Region.{row_long, record_at, records_at}
+use Rattle.book_log.specs.Region.{row_long, record_at, records_at}
 use Rattle.taps.specs.Region.{taps_at}
 use Rattle.meaning.specs.Book.{counted_in}
 use Rattle.soundness.proofs.Turn.{every_from, records-all, rows_on, rows-off, rows_end}

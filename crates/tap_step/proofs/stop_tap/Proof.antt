@@ -16,7 +16,7 @@ use Rattle.tally.specs.Tap.{tap_of}
 use Rattle.tally.specs.WordLaws.{fits_bits, tap-word}
 use Rattle.tally.specs.declared.Tap.{Tap}
 use Rattle.ledger.specs.Record.{stamp_of}
-use Rattle.log.specs.First.{first_with}
+use Rattle.book_log.specs.First.{first_with}
 use Rattle.meaning.specs.Book.{known, holds}
 use Rattle.meaning.specs.BookLaws.{me_in}
 use Rattle.meaning.specs.Reply.{already}
