@@ -1,4 +1,6 @@
 // The lent book: where each piece stands on the slice, and every way in which a held book is read and changed.
+#![tactic(auto)]
+
 ghost use Rattle.std.specs.Prelude.{◌≡◌, not, [], ◌∷◌, ◌+◌, ◌-◌, ◌*◌, ◌≤◌, ◌<◌, T, length, get_or, set};
 ghost use Rattle.lists.specs.Order.{rising, insert};
 ghost use Rattle.lists.specs.Part.{mid, patch};
@@ -22,8 +24,8 @@ ghost use Rattle.lent.specs.With.{with_table, with_value, with_log, with_counted
 ghost use Rattle.lent.specs.Words.{Logged, Table, Value, Log, Counted, Prompts, size, from, book_long, piece};
 ghost use Rattle.lent.specs.Words.{book_of, words_of};
 
-use limits::{BOOK_ROOM, LOG_ROOM, MOST, PARTS};
 use book_log::{BODY, LABEL, NUMBER, ORIGIN, ROW, find_body, lowest, make_row};
+use limits::{BOOK_ROOM, LOG_ROOM, MOST, PARTS};
 use log_edit::{drop_rows, put_one};
 use prompts::{PROMPT_WORDS, note, standing_at};
 use stamp::{Parts, list_of, merge_into, parts_at};

@@ -1,4 +1,6 @@
 // Rows of the log moved in place: new records merged in from the back, records that may go dropped from the front.
+#![tactic(auto)]
+
 ghost use Rattle.std.specs.Prelude.{◌≡◌, [], ◌∷◌, ◌++◌, ◌+◌, ◌-◌, ◌*◌, ◌≤◌, T, length, take, drop, replicate};
 ghost use Rattle.lists.specs.Order.{key_before, rising};
 ghost use Rattle.lists.specs.Part.{mid, patch};

@@ -1,4 +1,6 @@
 // The prompts in their region of a book: for each the showing, accepts and declines.
+#![tactic(auto)]
+
 ghost use Rattle.std.specs.Prelude.{◌≡◌, [], ◌+◌, ◌*◌, ◌≤◌, ◌<◌, length, get_or, set};
 ghost use Rattle.lists.specs.Order.{same_key};
 ghost use Rattle.limits.specs.Limits.{prompt_count, count_limit};

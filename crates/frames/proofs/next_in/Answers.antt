@@ -28,7 +28,6 @@ returns-in_default c =
     never f.result s.read.now (opened c.in_default.in_default-own.keys2) ∙ ap (λ (x : Frame). next_by x s.read.now) f.ensures
 
 -- what the next message is, by the frame that was told
--- RAW
 module _ (read : List ℕ) (opened : Bool) (n : ℕ) (e : frame_of read opened ≡ Whole n) where
   wrong : kinds_stand read ≡ false → Stop ≡ next_of read opened
   unfolding next_of
@@ -45,7 +44,8 @@ module _ (read : List ℕ) (opened : Bool) (n : ℕ) (e : frame_of read opened �
 pub kinds_stand-requires : goal.kinds_stand-requires
 kinds_stand-requires c =
     let s = c.args in
-    counted s.read.now s.opened _ (sym c.frame_of-frame.ensures ∙ c.in-Whole.is)
+    let w = counted s.read.now s.opened _ (sym c.frame_of-frame.ensures ∙ c.in-Whole.is) in
+    record { read_nonzero = w.0; counted = w.1 }
 
 pub returns-then-not-kinds_stand : goal.returns-then-not-kinds_stand
 returns-then-not-kinds_stand c =

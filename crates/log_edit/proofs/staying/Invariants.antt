@@ -1,0 +1,11 @@
+-- `log_edit::staying` meets its contract. The invariant: the rows from the n-th on stand after the row. Assumes
+-- nothing.
+use Prim.Native.Nat.{◌-◌}
+use Rattle.log_edit.proofs.Slide.{Behind}
+use Rattle.log_edit.proofs.staying.Given as goal
+
+abbrev pub invariant-loop-n : goal.invariant-loop-n
+invariant-loop-n l = Behind l.row l.r l.i l.n
+
+abbrev pub decreases-loop-n : goal.decreases-loop-n
+decreases-loop-n l = l.n
