@@ -1,5 +1,7 @@
 // The records of a gossip message as rows of the log: read one by one, surveyed in one pass, merged into the log's
 // region.
+#![tactic(auto)]
+
 ghost use Rattle.std.specs.Prelude.{◌≡◌, not, ◌+◌, ◌*◌, ◌≤◌, ◌<◌, length};
 ghost use Rattle.lists.specs.TestLaws.{bit};
 ghost use Rattle.stamp.specs.Parts.{list_of};

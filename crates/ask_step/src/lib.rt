@@ -1,4 +1,6 @@
 // A question put to a sound book: refused, told to wait, or answered. The book doesn't change.
+#![tactic(auto)]
+
 ghost use Rattle.std.specs.Prelude.{◌≡◌, ◌-◌, ◌<◌, T, ltb};
 ghost use Rattle.limits.specs.Limits.{prompt_count};
 ghost use Rattle.stamp.specs.Parts.{list_of};

@@ -1,4 +1,6 @@
 // Open: the fresh book of screen i of N on a lent slice.
+#![tactic(auto)]
+
 ghost use Rattle.std.specs.Prelude.{◌≡◌, length, replicate};
 ghost use Rattle.promise.specs.Lent.{open_on};
 ghost use Rattle.open_step.specs.Opening.{Opens};

@@ -1,4 +1,6 @@
 // What a screen answers, as a value: each case has its own data.
+#![tactic(auto)]
+
 use stamp::Parts;
 
 // The answers to a tap (Taken, Already), a question (Verdict, Wait) and a gossip (Gossiped), and the refusal's number.

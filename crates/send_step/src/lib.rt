@@ -1,4 +1,6 @@
 // Send: the known stamp and the whole log as one gossip message at the front of a lent output.
+#![tactic(auto)]
+
 ghost use Rattle.std.specs.Prelude.{◌≡◌, ◌+◌, ◌-◌, ◌≤◌, ◌<◌, T, length, get_or};
 ghost use Rattle.lists.specs.Part.{patch};
 ghost use Rattle.stamp.specs.Parts.{list_of};
@@ -13,8 +15,8 @@ ghost use Rattle.lent.specs.Rows.{no_record};
 ghost use Rattle.promise.specs.Lent.{put_front};
 ghost use Rattle.send_step.specs.Parts.{start_at, record_bytes, with_head, with_records};
 
-use lent::{known_of, log_row, logged_of, screen_of, screens_of};
 use book_log::{BODY, LABEL, NUMBER, ORIGIN};
+use lent::{known_of, log_row, logged_of, screen_of, screens_of};
 use requests::{write_head, write_record};
 use stamp::{Parts, parts_at};
 use tally::unpack;

@@ -1,5 +1,7 @@
 // The book put in order, in place: what is newly applied is merged into the value stamp and counted, then what may go
 // is dropped.
+#![tactic(auto)]
+
 ghost use Rattle.std.specs.Prelude.{◌≡◌, [], ◌∷◌, ◌≤◌, ◌<◌, length, get_or};
 ghost use Rattle.lists.specs.TestLaws.{bit};
 ghost use Rattle.tally.specs.Tap.{tap_of};
@@ -13,9 +15,9 @@ ghost use Rattle.lent.specs.Words.{book_of, words_of};
 ghost use Rattle.settle.specs.Moves.{count_taps, added, is_newly_applied, apply_one, apply_all, settled};
 ghost use Rattle.settle.specs.Ready.{Countable, Applicable, Appliable};
 
+use book_log::{BODY, LABEL, NUMBER, ORIGIN, is_applied};
 use lent::{drop_log, insert_tap, is_counted, log_row, logged_of, merge_value, note_tap, ready_of};
 use limits::PARTS;
-use book_log::{BODY, LABEL, NUMBER, ORIGIN, is_applied};
 use stamp::{list_of, parts_at, replace_part};
 
 // Counts the tap of w, unless it is counted.

@@ -1,5 +1,7 @@
 // Whether a lent slice is sound: its shape, then each clause on the parts of the book, one pass over a part for each
 // test.
+#![tactic(auto)]
+
 ghost use Rattle.std.specs.Prelude.{◌≡◌, not, ◌||◌, ◌+◌, ◌-◌, ◌*◌, ◌≤◌, ◌<◌, T, leb, ltb, length};
 ghost use Rattle.lists.specs.Rows.{rows};
 ghost use Rattle.lists.specs.Tests.{all, every};
@@ -17,13 +19,13 @@ ghost use Rattle.lent.specs.Words.{book_long, in_shape, lawful};
 ghost use Rattle.soundness.specs.Clauses.{fit_rules, within_rules, log_rules, counted_rules, region_rules, piece_rules};
 ghost use Rattle.soundness.specs.SoundLaws.{Numbers, word_rules};
 
+use book_log::{BODY, ROW, all_held, count_waiting, is_applied, lowest, rising_rows, rows_sound};
 use ledger::in_range;
 use lent::{
     BOOK, LOGGED, SCREEN, SCREENS, TAPS, counted_words, log_words, prompt_words, table_words,
     value_words,
 };
 use limits::{PARTS, book_room, log_room, most_screens};
-use book_log::{BODY, ROW, all_held, count_waiting, is_applied, lowest, rising_rows, rows_sound};
 use prompts::counts_follow;
 use stamp::{at_most, fits, list_of, parts_at, sum, zero_from};
 use tally::unpack;

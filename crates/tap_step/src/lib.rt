@@ -1,4 +1,6 @@
 // A tap on a sound book: what stops it (refused, or known already), judged before any word changes; and its taking.
+#![tactic(auto)]
+
 ghost use Rattle.std.specs.Prelude.{◌≡◌, ◌+◌, ◌-◌, ◌<◌, T, leb, length, get_or};
 ghost use Rattle.std.proofs.Math.Option.{none};
 ghost use Rattle.lists.specs.Tests.{first_of};
@@ -20,12 +22,12 @@ ghost use Rattle.promise.specs.LentLaws.{lent_of};
 ghost use Rattle.tap_step.specs.Stop.{StopsTap};
 
 use ask_step::label_unknown;
+use book_log::{NUMBER, ROW, make_row};
 use lent::{
     find_logged, is_counted, known_of, log_row, logged_of, put_record, raise_own, ready_of,
     screen_of, value_of,
 };
 use limits::{book_room, log_room};
-use book_log::{NUMBER, ROW, make_row};
 use promise::{NO_ROOM, Reply, SPENT, UNKNOWN_LABEL};
 use settle::{row_stamp, settle_book};
 use stamp::{Parts, part_at, parts_at, sum};

@@ -1,0 +1,36 @@
+-- `soundness::rows_within` meets its contract. Assumes nothing.
+use Prim.Native.Nat.{◌-◌}
+use native.Mathlib.Omega.{arith}
+use mathlib.Core.Path.{refl, sym, ◌∙◌}
+use borrow.Author.Tests.{not-true, not-false}
+use Rattle.lists.specs.Rows.{rows}
+use Rattle.limits.specs.Limits.{parts}
+use Rattle.stamp.specs.Stamp.{at_most}
+use Rattle.soundness.proofs.Turn.{rows_all, rows_on, rows-off, rows_end}
+use Rattle.soundness.proofs.rows_within.Goals as goal
+
+pub loop-i-init : goal.loop-i-init
+loop-i-init c = (omega arith, refl, rows_all _ _ _ _)
+
+pub returns-then-not-at_most : goal.returns-then-not-at_most
+returns-then-not-at_most c =
+    let s = c.args in
+    sym (c.loop-i.invariant.2 ∙ rows-off (λ x. at_most x s.known.now) parts s.n s.table.now c.loop-i.i
+    c.loop-i.at (omega arith) (sym c.at_most.ensures ∙ not-true _ c.if-not-at_most.true-raw))
+
+pub loop-i-preserved : goal.loop-i-preserved
+loop-i-preserved c =
+    let s = c.args in (
+      omega arith,
+      omega arith,
+      c.loop-i.invariant.2
+          ∙ rows_on (λ x. at_most x s.known.now) parts s.n s.table.now c.loop-i.i c.loop-i.at
+          (omega arith)
+          (sym c.at_most.ensures ∙ not-false _ c.if-not-at_most.false-raw),
+    )
+
+pub returns : goal.returns
+returns c =
+    let s = c.args in
+    sym (c.loop-i.invariant.2 ∙ rows_end (λ x. at_most x s.known.now) parts s.n s.table.now c.loop-i.i
+    c.loop-i.at c.loop-i-test.false)

@@ -1,0 +1,297 @@
+-- `tap_step::stop_tap` meets its contract: each return is a line of a tap's stops, or none of them. Assumes nothing.
+use Prim.Native.Nat.{ℕ, ◌<◌}
+use native.Mathlib.Omega.{arith}
+use mathlib.Core.Path.{◌≡◌, refl, sym, ap, subst, ◌∙◌}
+use mathlib.Core.Bool.{false}
+use mathlib.Core.Option.{some}
+use lib.Dec.{ltb, leb}
+use lib.ListN.{length, get_or}
+use borrow.Author.Tests.{lt-ltb, le-ltb, le-leb, lt-leb}
+use Rattle.lists.specs.Tests.{exists}
+use Rattle.limits.specs.Limits.{book_room, log_room}
+use Rattle.stamp.specs.Parts.{list_of}
+use Rattle.stamp.specs.Stamp.{Stamp, part, total}
+use Rattle.tally.specs.Standing.{among}
+use Rattle.tally.specs.Tap.{tap_of}
+use Rattle.tally.specs.WordLaws.{fits_bits, tap-word}
+use Rattle.tally.specs.declared.Tap.{Tap}
+use Rattle.ledger.specs.Record.{stamp_of}
+use Rattle.book_log.specs.First.{first_with}
+use Rattle.meaning.specs.Book.{known, holds}
+use Rattle.meaning.specs.BookLaws.{me_in}
+use Rattle.meaning.specs.Reply.{already}
+use Rattle.meaning.specs.Step.{first_stamp}
+use Rattle.lent.specs.SoundWords.{lawful-sound, lawful-held}
+use Rattle.lent.specs.Words.{book_of}
+use Rattle.lent.specs.Rows.{no_record}
+use Rattle.tap_step.proofs.Found.{tap-found, first-stamp}
+use Rattle.tap_step.proofs.Lines.{line_3, line-counted, line-logged, line_7, line_9, line_clear}
+use Rattle.tap_step.proofs.stop_tap.Goals as goal
+
+pub label_unknown-requires : goal.label_unknown-requires
+label_unknown-requires c =
+    record {
+      held = lawful-held c.args.b.now c.requires.t;
+      b_bound = me_in (book_of c.args.b.now) (lawful-sound c.args.b.now c.requires.t);
+    }
+
+pub returns-then-label_unknown : goal.returns-then-label_unknown
+returns-then-label_unknown c =
+    let ws = c.args.b.now in
+    line_3 (book_of ws) c.args.tap (list_of c.args.label) (lawful-sound ws c.requires.t) c.requires.t_2
+    c.requires.t_3
+    (sym c.label_unknown.ensures ∙ c.if-label_unknown.true)
+
+pub pack-w-requires : goal.pack-w-requires
+pack-w-requires c =
+    let entry : tie.Start =
+    c.before.before.before in
+    let s = entry in fits_bits s.args.tap s.pre.1.0
+
+pub is_counted-requires : goal.is_counted-requires
+is_counted-requires c =
+    let entry : tie.Start =
+    c.before.before.before.before in
+    let start : tie.Start =
+    entry in
+    let s = start in lawful-held s.args.b.now s.pre.0
+
+pub value_of-requires : goal.value_of-requires
+value_of-requires c =
+    let entry : tie.Start =
+    c.before.before.before.before.before.before in
+    let start : tie.Start =
+    entry in
+    let s = start in lawful-held s.args.b.now s.pre.0
+
+pub returns-then-is_counted : goal.returns-then-is_counted
+returns-then-is_counted c =
+    let entry : tie.Start =
+    c.before.before.before.before.before.before.before in
+    let start : tie.Start =
+    entry in
+    let same : tap_of c.pack-w.result ≡ (start).args.tap =
+    let s = start in
+    ap tap_of c.pack-w.ensures ∙ tap-word s.args.tap (fits_bits s.args.tap s.pre.1.0) in
+    let own : (let b = book_of (entry).args.b.now in
+    ltb (part (known b) b.me) (part (list_of (entry).args.label) b.me) ≡ false) =
+    sym c.label_unknown.ensures ∙ c.if-label_unknown.false in
+    let s = start in
+    let ws = s.args.b.now in
+    let b = book_of ws in
+    let e = ap (among b.counted) (sym (same)) ∙ sym c.is_counted.ensures ∙ c.if-is_counted.true in
+    line-counted b s.args.tap (list_of s.args.label) (lawful-sound ws s.pre.0) s.pre.1.0 s.pre.1.1
+    (own) e
+    ∙ ap (λ (x : Stamp). some (already x)) (sym c.value_of.ensures)
+
+pub logged_of-n-requires : goal.logged_of-n-requires
+logged_of-n-requires c =
+    let entry : tie.Start =
+    c.before.before.before.before.before.before in
+    let packed : tie.After-pack =
+    c.before.before in
+    let start : tie.Start =
+    entry in
+    let s = start (packed) in lawful-held s.args.b.now s.pre.0
+
+pub find_logged-i-requires : goal.find_logged-i-requires
+find_logged-i-requires c =
+    let entry : tie.Start =
+    c.before.before.before.before.before.before.before in
+    let packed : tie.After-pack =
+    c.before.before.before in
+    let start : tie.Start =
+    entry in
+    let s = start (packed) in lawful-held s.args.b.now s.pre.0
+
+pub logged_stamp-requires : goal.logged_stamp-requires
+logged_stamp-requires c =
+    let entry : tie.Start =
+    c.before.before.before.before.before.before.before.before.before in
+    let packed : tie.After-pack =
+    c.before.before.before.before.before in
+    let start : tie.Start =
+    entry in
+    let within : c.find_logged-i.result < length (book_of (start (packed)).args.b.now).log =
+    omega (arith, c.logged_of-n.ensures.0, c.if-i-n.true) in
+    record {
+      t = (start (packed)).requires.0;
+      i_in_bounds = within;
+    }
+
+pub returns-then-i-n : goal.returns-then-i-n
+returns-then-i-n c =
+    let entry : tie.Start =
+    c.before.before.before.before.before.before.before.before.before.before in
+    let packed : tie.After-pack =
+    c.before.before.before.before.before.before in
+    let start : tie.Start =
+    entry in
+    let same : tap_of c.pack-w.result ≡ (start).args.tap =
+    let s = start in
+    ap tap_of c.pack-w.ensures ∙ tap-word s.args.tap (fits_bits s.args.tap s.pre.1.0) in
+    let own : (let b = book_of (entry).args.b.now in
+    ltb (part (known b) b.me) (part (list_of (entry).args.label) b.me) ≡ false) =
+    sym c.label_unknown.ensures ∙ c.if-label_unknown.false in
+    let new : (let s = (start (packed)).args in among (book_of s.b.now).counted s.tap ≡ false) =
+    let s = (start (packed)).args in
+    ap (among (book_of s.b.now).counted) (sym (same (packed))) ∙ sym c.is_counted.ensures
+    ∙ c.if-is_counted.false in
+    let within : c.find_logged-i.result < length (book_of (start (packed)).args.b.now).log =
+    omega (arith, c.logged_of-n.ensures.0, c.if-i-n.true) in
+    let k = packed in
+    let s = start in
+    let ws = s.args.b.now in
+    let rs = (book_of ws).log in
+    let t = s.args.tap in
+    let w = k.pack.result in
+    let lt : first_with w rs < length rs = subst (λ (i : ℕ). i < length rs) c.find_logged-i.ensures (within) in
+    let found = ap (λ (x : Tap). exists (holds x) rs) (sym (same)) ∙ tap-found w rs
+    ∙ lt-ltb (first_with w rs) (length rs) lt in
+    let says =
+    c.logged_stamp.ensures ∙ ap (λ (i : ℕ). stamp_of (get_or rs i no_record)) c.find_logged-i.ensures
+    ∙ sym (first-stamp w rs no_record lt)
+    ∙ ap (λ (x : Tap). first_stamp x rs) (same) in
+    line-logged (book_of ws) t (list_of s.args.label) (lawful-sound ws s.pre.0) s.pre.1.0 s.pre.1.1
+    (own) (new) found
+    ∙ ap (λ (x : Stamp). some (already x)) (sym says)
+
+pub is_spent-requires : goal.is_spent-requires
+is_spent-requires c =
+    let entry : tie.Start =
+    c.before.before.before.before.before.before.before.before.before in
+    let packed : tie.After-pack =
+    c.before.before.before.before.before in
+    let unmet : tie.Else2 =
+    c.before.before.before in
+    let start : tie.Start =
+    entry in
+    (start (packed (unmet))).requires.0
+
+pub returns-then-is_spent : goal.returns-then-is_spent
+returns-then-is_spent c =
+    let entry : tie.Start =
+    c.before.before.before.before.before.before.before.before.before.before.before in
+    let packed : tie.After-pack =
+    c.before.before.before.before.before.before.before in
+    let unmet : tie.Else2 =
+    c.before.before.before.before.before in
+    let start : tie.Start =
+    entry in
+    let same : tap_of c.pack-w.result ≡ (start).args.tap =
+    let s = start in
+    ap tap_of c.pack-w.ensures ∙ tap-word s.args.tap (fits_bits s.args.tap s.pre.1.0) in
+    let own : (let b = book_of (entry).args.b.now in
+    ltb (part (known b) b.me) (part (list_of (entry).args.label) b.me) ≡ false) =
+    sym c.label_unknown.ensures ∙ c.if-label_unknown.false in
+    let new : (let s = (start (packed)).args in among (book_of s.b.now).counted s.tap ≡ false) =
+    let s = (start (packed)).args in
+    ap (among (book_of s.b.now).counted) (sym (same (packed))) ∙ sym c.is_counted.ensures
+    ∙ c.if-is_counted.false in
+    let none : (let s = (start (packed (unmet))).args in
+    exists (holds s.tap) (book_of s.b.now).log ≡ false) =
+    let k = packed (unmet) in
+    let s = start in
+    let rs = (book_of s.args.b.now).log in
+    ap (λ (x : Tap). exists (holds x) rs) (sym (same))
+    ∙ tap-found k.pack.result rs
+    ∙ le-ltb (first_with k.pack.result rs) (length rs)
+    (omega (arith, c.find_logged-i.ensures, c.logged_of-n.ensures.0, c.if-i-n.false)) in
+    let e = unmet in
+    let k = packed in
+    let s = start in
+    let ws = s.args.b.now in
+    line_7 (book_of ws) s.args.tap (list_of s.args.label) (lawful-sound ws s.pre.0) s.pre.1.0
+    s.pre.1.1
+    (own) (new) (none) (sym c.is_spent.ensures ∙ c.if-is_spent.true)
+
+pub returns-then-log_room-n : goal.returns-then-log_room-n
+returns-then-log_room-n c =
+    let entry : tie.Start =
+    c.before.before.before.before.before.before.before.before.before.before.before.before.before in
+    let packed : tie.After-pack =
+    c.before.before.before.before.before.before.before.before.before in
+    let unmet : tie.Else2 =
+    c.before.before.before.before.before.before.before in
+    let unlogged : tie.Else3 =
+    c.before.before.before.before in
+    let start : tie.Start =
+    entry in
+    let same : tap_of c.pack-w.result ≡ (start).args.tap =
+    let s = start in
+    ap tap_of c.pack-w.ensures ∙ tap-word s.args.tap (fits_bits s.args.tap s.pre.1.0) in
+    let own : (let b = book_of (entry).args.b.now in
+    ltb (part (known b) b.me) (part (list_of (entry).args.label) b.me) ≡ false) =
+    sym c.label_unknown.ensures ∙ c.if-label_unknown.false in
+    let new : (let s = (start (packed)).args in among (book_of s.b.now).counted s.tap ≡ false) =
+    let s = (start (packed)).args in
+    ap (among (book_of s.b.now).counted) (sym (same (packed))) ∙ sym c.is_counted.ensures
+    ∙ c.if-is_counted.false in
+    let none : (let s = (start (packed (unmet))).args in
+    exists (holds s.tap) (book_of s.b.now).log ≡ false) =
+    let k = packed (unmet) in
+    let s = start in
+    let rs = (book_of s.args.b.now).log in
+    ap (λ (x : Tap). exists (holds x) rs) (sym (same))
+    ∙ tap-found k.pack.result rs
+    ∙ le-ltb (first_with k.pack.result rs) (length rs)
+    (omega (arith, c.find_logged-i.ensures, c.logged_of-n.ensures.0, c.if-i-n.false)) in
+    let unspent : leb book_room (total (known (book_of (start (packed (unmet (unlogged)))).args.b.now))) ≡ false =
+    sym c.is_spent.ensures ∙ c.if-is_spent.false in
+    let h = unlogged in
+    let e = unmet in
+    let k = packed in
+    let s = start in
+    let ws = s.args.b.now in
+    let full = le-leb log_room (length (book_of ws).log)
+    (omega (arith, c.log_room.ensures, h.before.before.logged-of.ensures.0, c.if-log_room-n.true)) in
+    line_9 (book_of ws) s.args.tap (list_of s.args.label) (lawful-sound ws s.pre.0) s.pre.1.0
+    s.pre.1.1
+    (own) (new) (none) (unspent) full
+
+pub returns : goal.returns
+returns c =
+    let entry : tie.Start =
+    c.before.before.before.before.before.before.before.before.before.before.before.before.before in
+    let packed : tie.After-pack =
+    c.before.before.before.before.before.before.before.before.before in
+    let unmet : tie.Else2 =
+    c.before.before.before.before.before.before.before in
+    let unlogged : tie.Else3 =
+    c.before.before.before.before in
+    let start : tie.Start =
+    entry in
+    let same : tap_of c.pack-w.result ≡ (start).args.tap =
+    let s = start in
+    ap tap_of c.pack-w.ensures ∙ tap-word s.args.tap (fits_bits s.args.tap s.pre.1.0) in
+    let own : (let b = book_of (entry).args.b.now in
+    ltb (part (known b) b.me) (part (list_of (entry).args.label) b.me) ≡ false) =
+    sym c.label_unknown.ensures ∙ c.if-label_unknown.false in
+    let new : (let s = (start (packed)).args in among (book_of s.b.now).counted s.tap ≡ false) =
+    let s = (start (packed)).args in
+    ap (among (book_of s.b.now).counted) (sym (same (packed))) ∙ sym c.is_counted.ensures
+    ∙ c.if-is_counted.false in
+    let none : (let s = (start (packed (unmet))).args in
+    exists (holds s.tap) (book_of s.b.now).log ≡ false) =
+    let k = packed (unmet) in
+    let s = start in
+    let rs = (book_of s.args.b.now).log in
+    ap (λ (x : Tap). exists (holds x) rs) (sym (same))
+    ∙ tap-found k.pack.result rs
+    ∙ le-ltb (first_with k.pack.result rs) (length rs)
+    (omega (arith, c.find_logged-i.ensures, c.logged_of-n.ensures.0, c.if-i-n.false)) in
+    let unspent : leb book_room (total (known (book_of (start (packed (unmet (unlogged)))).args.b.now))) ≡ false =
+    sym c.is_spent.ensures ∙ c.if-is_spent.false in
+    let h = unlogged in
+    let e = unmet in
+    let k = packed in
+    let s = start in
+    let ws = s.args.b.now in
+    let room = lt-leb log_room (length (book_of ws).log)
+    (omega (arith, c.log_room.ensures, h.before.before.logged-of.ensures.0, c.if-log_room-n.false)) in (
+      line_clear (book_of ws) s.args.tap (list_of s.args.label) (lawful-sound ws s.pre.0) s.pre.1.0
+          s.pre.1.1
+          (own) (new) (none) (unspent) room,
+      refl,
+      refl,
+    )

@@ -1,0 +1,60 @@
+-- `tap_step::take_tap` meets its contract. Assumes nothing.
+use mathlib.Core.Path.{◌≡◌, ap, subst, sym, ◌∙◌}
+use lib.Dec.{T}
+use Rattle.stamp.specs.Parts.{list_of}
+use Rattle.tally.specs.Body.{Body, says, body_of, body_fits}
+use Rattle.tally.specs.BodyLaws.{body-word, says-word, tap-body}
+use Rattle.tally.specs.WordLaws.{fits_bits}
+use Rattle.ledger.specs.Record.{stamp_of}
+use Rattle.meaning.specs.Reply.{taken}
+use Rattle.meaning.specs.Step.{new_record, take_book, take_out, tap_step}
+use Rattle.meaning.specs.StepLaws.{TakeDone, tap-by-none}
+use Rattle.lent.specs.SoundWords.{lawful-held}
+use Rattle.lent.specs.Words.{book_of, words_of}
+use Rattle.promise.specs.LentLaws.{owes}
+use Rattle.tap_step.proofs.take_tap.Goals as goal
+
+pub pack-w-requires : goal.pack-w-requires
+pack-w-requires c =
+    let done : (let b = book_of c.args.b.now in
+    let t = c.args.tap in
+    let l = list_of c.args.label in
+    TakeDone b (says t) l × (tap_step b t l ≡ take_out b (says t) l)) =
+    let w = c.args in tap-by-none (book_of w.b.now) w.tap (list_of w.label) c.requires.label_value in
+    fits_bits c.args.tap (done).0.said_fits
+
+pub enter-requires : goal.enter-requires
+enter-requires c =
+    let done : (let b = book_of c.args.b.now in
+    let t = c.args.tap in
+    let l = list_of c.args.label in
+    TakeDone b (says t) l × (tap_step b t l ≡ take_out b (says t) l)) =
+    let w = c.args in tap-by-none (book_of w.b.now) w.tap (list_of w.label) c.requires.label_value in
+    let same : body_of c.pack-w.result ≡ says c.args.tap =
+    let t = c.args.tap in
+    ap body_of (c.pack-w.ensures ∙ sym (says-word t)) ∙ body-word (says t) (done).0.said_fits in
+    let ws = c.args.b.now in
+    let l = list_of c.args.label in
+    let fits = subst (λ w. T (body_fits w)) (sym c.pack-w.ensures) (tap-body c.args.tap (done).0.said_fits) in
+    record {
+      held = lawful-held ws c.requires.t;
+      t = fits;
+      take_done = subst (λ (x : Body). TakeDone (book_of ws) x l) (sym (same)) (done).0;
+    }
+
+pub returns : goal.returns
+returns c =
+    let done : (let b = book_of c.args.b.now in
+    let t = c.args.tap in
+    let l = list_of c.args.label in
+    TakeDone b (says t) l × (tap_step b t l ≡ take_out b (says t) l)) =
+    let w = c.args in tap-by-none (book_of w.b.now) w.tap (list_of w.label) c.requires.label_value in
+    let same : body_of c.pack-w.result ≡ says c.args.tap =
+    let t = c.args.tap in
+    ap body_of (c.pack-w.ensures ∙ sym (says-word t)) ∙ body-word (says t) (done).0.said_fits in
+    let b = book_of c.args.b.now in
+    let t = c.args.tap in
+    let l = list_of c.args.label in
+    owes (tap_step b t l) (take_out b (says t) l) _ _ (done).1
+    (ap taken (c.enter.ensures.result_value ∙ ap (λ (x : Body). stamp_of (new_record b x l)) (same)))
+    (c.enter.ensures.b_after ∙ ap (λ (x : Body). words_of (take_book b x l)) (same))
