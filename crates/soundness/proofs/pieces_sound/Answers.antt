@@ -31,7 +31,12 @@ regions_sound-requires c =
     let known = take (a.i * parts + parts - a.i * parts) (drop (a.i * parts) a.table.now) in
     let g = row_fits a.i a.n a.table.now c.requires.parts_in_bounds.2 f in
     let long = fits-long a.n known g in
-    (search rules, ((long, fits-words a.n known g, long), search rules))
+    record {
+      parts_in_bounds = search rules;
+      known_len = (long, fits-words a.n known g, long);
+      row_long_in_bounds = search rules;
+      taps_in_bounds = search rules;
+    }
 
 pub returns : goal.returns
 unfolding piece_rules

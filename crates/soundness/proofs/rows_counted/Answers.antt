@@ -1,20 +1,15 @@
 -- `soundness::rows_counted` meets its contract. Assumes nothing.
-use Prim.Native.Nat.{ℕ, ◌-◌}
+use Prim.Native.Nat.{◌-◌}
 use native.Mathlib.Omega.{arith}
 use mathlib.Core.Path.{refl, sym, ◌∙◌}
-use mathlib.Core.Bool.{Bool, not, ◌||◌}
-use mathlib.Core.List.{List}
+use mathlib.Core.Bool.{not, ◌||◌}
 use borrow.Author.Tests.{not-true, not-false}
 use Rattle.ledger.specs.Record.{is_applied}
-use Rattle.book_log.specs.Region.{row_long, record_at}
-use Rattle.taps.specs.Region.{taps_at}
+use Rattle.book_log.specs.Region.{row_long}
 use Rattle.meaning.specs.Book.{counted_in}
 use Rattle.soundness.proofs.Turn.{records-all, rows_on, rows-off, rows_end}
+use Rattle.soundness.proofs.rows_counted.Invariants.{counts}
 use Rattle.soundness.proofs.rows_counted.Goals as goal
-
--- the test of a row
-abbrev counts : List ℕ → List ℕ → ℕ → List ℕ → Bool
-counts ready counted taps x = not (is_applied ready (record_at x)) || counted_in (taps_at taps counted) (record_at x)
 
 pub loop-i-init : goal.loop-i-init
 loop-i-init c = (omega arith, refl, records-all (λ x. not (is_applied _ x) || counted_in _ x) _ _)

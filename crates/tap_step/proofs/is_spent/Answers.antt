@@ -21,8 +21,9 @@ known_of-s-requires c =
 
 pub sum-requires : goal.sum-requires
 sum-requires c =
-    subst (λ (x : Stamp). (length x ≤ parts) × T (every (λ y. ltb y word) x)) (sym c.known_of-s.ensures.0)
-    (known-words (book_of c.args.b.now) (lawful-sound c.args.b.now c.requires))
+    let all = subst (λ (x : Stamp). (length x ≤ parts) × T (every (λ y. ltb y word) x)) (sym c.known_of-s.ensures.0)
+    (known-words (book_of c.args.b.now) (lawful-sound c.args.b.now c.requires)) in
+    record { s_len_bound = all.0; t = all.1 }
 
 pub returns : goal.returns
 returns c =

@@ -43,108 +43,60 @@ returns-then-label_unknown c =
     (sym c.label_unknown.ensures ∙ c.if-label_unknown.true)
 
 pub pack-w-requires : goal.pack-w-requires
-pack-w-requires c =
-    let entry : tie.Start =
-    c.before.before.before in
-    let s = entry in fits_bits s.args.tap s.pre.1.0
+pack-w-requires c = fits_bits c.args.tap c.requires.t_2
 
 pub is_counted-requires : goal.is_counted-requires
-is_counted-requires c =
-    let entry : tie.Start =
-    c.before.before.before.before in
-    let start : tie.Start =
-    entry in
-    let s = start in lawful-held s.args.b.now s.pre.0
+is_counted-requires c = lawful-held c.args.b.now c.requires.t
 
 pub value_of-requires : goal.value_of-requires
-value_of-requires c =
-    let entry : tie.Start =
-    c.before.before.before.before.before.before in
-    let start : tie.Start =
-    entry in
-    let s = start in lawful-held s.args.b.now s.pre.0
+value_of-requires c = lawful-held c.args.b.now c.requires.t
 
 pub returns-then-is_counted : goal.returns-then-is_counted
 returns-then-is_counted c =
-    let entry : tie.Start =
-    c.before.before.before.before.before.before.before in
-    let start : tie.Start =
-    entry in
-    let same : tap_of c.pack-w.result ≡ (start).args.tap =
-    let s = start in
-    ap tap_of c.pack-w.ensures ∙ tap-word s.args.tap (fits_bits s.args.tap s.pre.1.0) in
-    let own : (let b = book_of (entry).args.b.now in
-    ltb (part (known b) b.me) (part (list_of (entry).args.label) b.me) ≡ false) =
+    let same : tap_of c.pack-w.result ≡ c.args.tap =
+    ap tap_of c.pack-w.ensures ∙ tap-word c.args.tap (fits_bits c.args.tap c.requires.t_2) in
+    let own : (let b = book_of c.args.b.now in
+    ltb (part (known b) b.me) (part (list_of c.args.label) b.me) ≡ false) =
     sym c.label_unknown.ensures ∙ c.if-label_unknown.false in
-    let s = start in
-    let ws = s.args.b.now in
+    let ws = c.args.b.now in
     let b = book_of ws in
     let e = ap (among b.counted) (sym (same)) ∙ sym c.is_counted.ensures ∙ c.if-is_counted.true in
-    line-counted b s.args.tap (list_of s.args.label) (lawful-sound ws s.pre.0) s.pre.1.0 s.pre.1.1
+    line-counted b c.args.tap (list_of c.args.label) (lawful-sound ws c.requires.t) c.requires.t_2 c.requires.t_3
     (own) e
     ∙ ap (λ (x : Stamp). some (already x)) (sym c.value_of.ensures)
 
 pub logged_of-n-requires : goal.logged_of-n-requires
-logged_of-n-requires c =
-    let entry : tie.Start =
-    c.before.before.before.before.before.before in
-    let packed : tie.After-pack =
-    c.before.before in
-    let start : tie.Start =
-    entry in
-    let s = start (packed) in lawful-held s.args.b.now s.pre.0
+logged_of-n-requires c = lawful-held c.args.b.now c.requires.t
 
 pub find_logged-i-requires : goal.find_logged-i-requires
-find_logged-i-requires c =
-    let entry : tie.Start =
-    c.before.before.before.before.before.before.before in
-    let packed : tie.After-pack =
-    c.before.before.before in
-    let start : tie.Start =
-    entry in
-    let s = start (packed) in lawful-held s.args.b.now s.pre.0
+find_logged-i-requires c = lawful-held c.args.b.now c.requires.t
 
 pub logged_stamp-requires : goal.logged_stamp-requires
 logged_stamp-requires c =
-    let entry : tie.Start =
-    c.before.before.before.before.before.before.before.before.before in
-    let packed : tie.After-pack =
-    c.before.before.before.before.before in
-    let start : tie.Start =
-    entry in
-    let within : c.find_logged-i.result < length (book_of (start (packed)).args.b.now).log =
+    let within : c.find_logged-i.result < length (book_of c.args.b.now).log =
     omega (arith, c.logged_of-n.ensures.0, c.if-i-n.true) in
     record {
-      t = (start (packed)).requires.0;
+      t = c.requires.t;
       i_in_bounds = within;
     }
 
 pub returns-then-i-n : goal.returns-then-i-n
 returns-then-i-n c =
-    let entry : tie.Start =
-    c.before.before.before.before.before.before.before.before.before.before in
-    let packed : tie.After-pack =
-    c.before.before.before.before.before.before in
-    let start : tie.Start =
-    entry in
-    let same : tap_of c.pack-w.result ≡ (start).args.tap =
-    let s = start in
-    ap tap_of c.pack-w.ensures ∙ tap-word s.args.tap (fits_bits s.args.tap s.pre.1.0) in
-    let own : (let b = book_of (entry).args.b.now in
-    ltb (part (known b) b.me) (part (list_of (entry).args.label) b.me) ≡ false) =
+    let same : tap_of c.pack-w.result ≡ c.args.tap =
+    ap tap_of c.pack-w.ensures ∙ tap-word c.args.tap (fits_bits c.args.tap c.requires.t_2) in
+    let own : (let b = book_of c.args.b.now in
+    ltb (part (known b) b.me) (part (list_of c.args.label) b.me) ≡ false) =
     sym c.label_unknown.ensures ∙ c.if-label_unknown.false in
-    let new : (let s = (start (packed)).args in among (book_of s.b.now).counted s.tap ≡ false) =
-    let s = (start (packed)).args in
-    ap (among (book_of s.b.now).counted) (sym (same (packed))) ∙ sym c.is_counted.ensures
+    let new : (let s = c.args in among (book_of s.b.now).counted s.tap ≡ false) =
+    let s = c.args in
+    ap (among (book_of s.b.now).counted) (sym (same)) ∙ sym c.is_counted.ensures
     ∙ c.if-is_counted.false in
-    let within : c.find_logged-i.result < length (book_of (start (packed)).args.b.now).log =
+    let within : c.find_logged-i.result < length (book_of c.args.b.now).log =
     omega (arith, c.logged_of-n.ensures.0, c.if-i-n.true) in
-    let k = packed in
-    let s = start in
-    let ws = s.args.b.now in
+    let ws = c.args.b.now in
     let rs = (book_of ws).log in
-    let t = s.args.tap in
-    let w = k.pack.result in
+    let t = c.args.tap in
+    let w = c.pack-w.result in
     let lt : first_with w rs < length rs = subst (λ (i : ℕ). i < length rs) c.find_logged-i.ensures (within) in
     let found = ap (λ (x : Tap). exists (holds x) rs) (sym (same)) ∙ tap-found w rs
     ∙ lt-ltb (first_with w rs) (length rs) lt in
@@ -152,145 +104,88 @@ returns-then-i-n c =
     c.logged_stamp.ensures ∙ ap (λ (i : ℕ). stamp_of (get_or rs i no_record)) c.find_logged-i.ensures
     ∙ sym (first-stamp w rs no_record lt)
     ∙ ap (λ (x : Tap). first_stamp x rs) (same) in
-    line-logged (book_of ws) t (list_of s.args.label) (lawful-sound ws s.pre.0) s.pre.1.0 s.pre.1.1
+    line-logged (book_of ws) t (list_of c.args.label) (lawful-sound ws c.requires.t) c.requires.t_2 c.requires.t_3
     (own) (new) found
     ∙ ap (λ (x : Stamp). some (already x)) (sym says)
 
 pub is_spent-requires : goal.is_spent-requires
-is_spent-requires c =
-    let entry : tie.Start =
-    c.before.before.before.before.before.before.before.before.before in
-    let packed : tie.After-pack =
-    c.before.before.before.before.before in
-    let unmet : tie.Else2 =
-    c.before.before.before in
-    let start : tie.Start =
-    entry in
-    (start (packed (unmet))).requires.0
+is_spent-requires c = c.requires.t
 
 pub returns-then-is_spent : goal.returns-then-is_spent
 returns-then-is_spent c =
-    let entry : tie.Start =
-    c.before.before.before.before.before.before.before.before.before.before.before in
-    let packed : tie.After-pack =
-    c.before.before.before.before.before.before.before in
-    let unmet : tie.Else2 =
-    c.before.before.before.before.before in
-    let start : tie.Start =
-    entry in
-    let same : tap_of c.pack-w.result ≡ (start).args.tap =
-    let s = start in
-    ap tap_of c.pack-w.ensures ∙ tap-word s.args.tap (fits_bits s.args.tap s.pre.1.0) in
-    let own : (let b = book_of (entry).args.b.now in
-    ltb (part (known b) b.me) (part (list_of (entry).args.label) b.me) ≡ false) =
+    let same : tap_of c.pack-w.result ≡ c.args.tap =
+    ap tap_of c.pack-w.ensures ∙ tap-word c.args.tap (fits_bits c.args.tap c.requires.t_2) in
+    let own : (let b = book_of c.args.b.now in
+    ltb (part (known b) b.me) (part (list_of c.args.label) b.me) ≡ false) =
     sym c.label_unknown.ensures ∙ c.if-label_unknown.false in
-    let new : (let s = (start (packed)).args in among (book_of s.b.now).counted s.tap ≡ false) =
-    let s = (start (packed)).args in
-    ap (among (book_of s.b.now).counted) (sym (same (packed))) ∙ sym c.is_counted.ensures
+    let new : (let s = c.args in among (book_of s.b.now).counted s.tap ≡ false) =
+    let s = c.args in
+    ap (among (book_of s.b.now).counted) (sym (same)) ∙ sym c.is_counted.ensures
     ∙ c.if-is_counted.false in
-    let none : (let s = (start (packed (unmet))).args in
+    let none : (let s = c.args in
     exists (holds s.tap) (book_of s.b.now).log ≡ false) =
-    let k = packed (unmet) in
-    let s = start in
-    let rs = (book_of s.args.b.now).log in
+    let rs = (book_of c.args.b.now).log in
     ap (λ (x : Tap). exists (holds x) rs) (sym (same))
-    ∙ tap-found k.pack.result rs
-    ∙ le-ltb (first_with k.pack.result rs) (length rs)
+    ∙ tap-found c.pack-w.result rs
+    ∙ le-ltb (first_with c.pack-w.result rs) (length rs)
     (omega (arith, c.find_logged-i.ensures, c.logged_of-n.ensures.0, c.if-i-n.false)) in
-    let e = unmet in
-    let k = packed in
-    let s = start in
-    let ws = s.args.b.now in
-    line_7 (book_of ws) s.args.tap (list_of s.args.label) (lawful-sound ws s.pre.0) s.pre.1.0
-    s.pre.1.1
+    let ws = c.args.b.now in
+    line_7 (book_of ws) c.args.tap (list_of c.args.label) (lawful-sound ws c.requires.t) c.requires.t_2
+    c.requires.t_3
     (own) (new) (none) (sym c.is_spent.ensures ∙ c.if-is_spent.true)
 
 pub returns-then-log_room-n : goal.returns-then-log_room-n
 returns-then-log_room-n c =
-    let entry : tie.Start =
-    c.before.before.before.before.before.before.before.before.before.before.before.before.before in
-    let packed : tie.After-pack =
-    c.before.before.before.before.before.before.before.before.before in
-    let unmet : tie.Else2 =
-    c.before.before.before.before.before.before.before in
-    let unlogged : tie.Else3 =
-    c.before.before.before.before in
-    let start : tie.Start =
-    entry in
-    let same : tap_of c.pack-w.result ≡ (start).args.tap =
-    let s = start in
-    ap tap_of c.pack-w.ensures ∙ tap-word s.args.tap (fits_bits s.args.tap s.pre.1.0) in
-    let own : (let b = book_of (entry).args.b.now in
-    ltb (part (known b) b.me) (part (list_of (entry).args.label) b.me) ≡ false) =
+    let same : tap_of c.pack-w.result ≡ c.args.tap =
+    ap tap_of c.pack-w.ensures ∙ tap-word c.args.tap (fits_bits c.args.tap c.requires.t_2) in
+    let own : (let b = book_of c.args.b.now in
+    ltb (part (known b) b.me) (part (list_of c.args.label) b.me) ≡ false) =
     sym c.label_unknown.ensures ∙ c.if-label_unknown.false in
-    let new : (let s = (start (packed)).args in among (book_of s.b.now).counted s.tap ≡ false) =
-    let s = (start (packed)).args in
-    ap (among (book_of s.b.now).counted) (sym (same (packed))) ∙ sym c.is_counted.ensures
+    let new : (let s = c.args in among (book_of s.b.now).counted s.tap ≡ false) =
+    let s = c.args in
+    ap (among (book_of s.b.now).counted) (sym (same)) ∙ sym c.is_counted.ensures
     ∙ c.if-is_counted.false in
-    let none : (let s = (start (packed (unmet))).args in
+    let none : (let s = c.args in
     exists (holds s.tap) (book_of s.b.now).log ≡ false) =
-    let k = packed (unmet) in
-    let s = start in
-    let rs = (book_of s.args.b.now).log in
+    let rs = (book_of c.args.b.now).log in
     ap (λ (x : Tap). exists (holds x) rs) (sym (same))
-    ∙ tap-found k.pack.result rs
-    ∙ le-ltb (first_with k.pack.result rs) (length rs)
+    ∙ tap-found c.pack-w.result rs
+    ∙ le-ltb (first_with c.pack-w.result rs) (length rs)
     (omega (arith, c.find_logged-i.ensures, c.logged_of-n.ensures.0, c.if-i-n.false)) in
-    let unspent : leb book_room (total (known (book_of (start (packed (unmet (unlogged)))).args.b.now))) ≡ false =
+    let unspent : leb book_room (total (known (book_of c.args.b.now))) ≡ false =
     sym c.is_spent.ensures ∙ c.if-is_spent.false in
-    let h = unlogged in
-    let e = unmet in
-    let k = packed in
-    let s = start in
-    let ws = s.args.b.now in
+    let ws = c.args.b.now in
     let full = le-leb log_room (length (book_of ws).log)
-    (omega (arith, c.log_room.ensures, h.before.before.logged-of.ensures.0, c.if-log_room-n.true)) in
-    line_9 (book_of ws) s.args.tap (list_of s.args.label) (lawful-sound ws s.pre.0) s.pre.1.0
-    s.pre.1.1
+    (omega (arith, c.log_room.ensures, c.logged_of-n.ensures.0, c.if-log_room-n.true)) in
+    line_9 (book_of ws) c.args.tap (list_of c.args.label) (lawful-sound ws c.requires.t) c.requires.t_2
+    c.requires.t_3
     (own) (new) (none) (unspent) full
 
 pub returns : goal.returns
 returns c =
-    let entry : tie.Start =
-    c.before.before.before.before.before.before.before.before.before.before.before.before.before in
-    let packed : tie.After-pack =
-    c.before.before.before.before.before.before.before.before.before in
-    let unmet : tie.Else2 =
-    c.before.before.before.before.before.before.before in
-    let unlogged : tie.Else3 =
-    c.before.before.before.before in
-    let start : tie.Start =
-    entry in
-    let same : tap_of c.pack-w.result ≡ (start).args.tap =
-    let s = start in
-    ap tap_of c.pack-w.ensures ∙ tap-word s.args.tap (fits_bits s.args.tap s.pre.1.0) in
-    let own : (let b = book_of (entry).args.b.now in
-    ltb (part (known b) b.me) (part (list_of (entry).args.label) b.me) ≡ false) =
+    let same : tap_of c.pack-w.result ≡ c.args.tap =
+    ap tap_of c.pack-w.ensures ∙ tap-word c.args.tap (fits_bits c.args.tap c.requires.t_2) in
+    let own : (let b = book_of c.args.b.now in
+    ltb (part (known b) b.me) (part (list_of c.args.label) b.me) ≡ false) =
     sym c.label_unknown.ensures ∙ c.if-label_unknown.false in
-    let new : (let s = (start (packed)).args in among (book_of s.b.now).counted s.tap ≡ false) =
-    let s = (start (packed)).args in
-    ap (among (book_of s.b.now).counted) (sym (same (packed))) ∙ sym c.is_counted.ensures
+    let new : (let s = c.args in among (book_of s.b.now).counted s.tap ≡ false) =
+    let s = c.args in
+    ap (among (book_of s.b.now).counted) (sym (same)) ∙ sym c.is_counted.ensures
     ∙ c.if-is_counted.false in
-    let none : (let s = (start (packed (unmet))).args in
+    let none : (let s = c.args in
     exists (holds s.tap) (book_of s.b.now).log ≡ false) =
-    let k = packed (unmet) in
-    let s = start in
-    let rs = (book_of s.args.b.now).log in
+    let rs = (book_of c.args.b.now).log in
     ap (λ (x : Tap). exists (holds x) rs) (sym (same))
-    ∙ tap-found k.pack.result rs
-    ∙ le-ltb (first_with k.pack.result rs) (length rs)
+    ∙ tap-found c.pack-w.result rs
+    ∙ le-ltb (first_with c.pack-w.result rs) (length rs)
     (omega (arith, c.find_logged-i.ensures, c.logged_of-n.ensures.0, c.if-i-n.false)) in
-    let unspent : leb book_room (total (known (book_of (start (packed (unmet (unlogged)))).args.b.now))) ≡ false =
+    let unspent : leb book_room (total (known (book_of c.args.b.now))) ≡ false =
     sym c.is_spent.ensures ∙ c.if-is_spent.false in
-    let h = unlogged in
-    let e = unmet in
-    let k = packed in
-    let s = start in
-    let ws = s.args.b.now in
+    let ws = c.args.b.now in
     let room = lt-leb log_room (length (book_of ws).log)
-    (omega (arith, c.log_room.ensures, h.before.before.logged-of.ensures.0, c.if-log_room-n.false)) in (
-      line_clear (book_of ws) s.args.tap (list_of s.args.label) (lawful-sound ws s.pre.0) s.pre.1.0
-          s.pre.1.1
+    (omega (arith, c.log_room.ensures, c.logged_of-n.ensures.0, c.if-log_room-n.false)) in (
+      line_clear (book_of ws) c.args.tap (list_of c.args.label) (lawful-sound ws c.requires.t) c.requires.t_2
+          c.requires.t_3
           (own) (new) (none) (unspent) room,
       refl,
       refl,

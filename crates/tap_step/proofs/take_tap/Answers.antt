@@ -21,7 +21,7 @@ pack-w-requires c =
     let l = list_of c.args.label in
     TakeDone b (says t) l × (tap_step b t l ≡ take_out b (says t) l)) =
     let w = c.args in tap-by-none (book_of w.b.now) w.tap (list_of w.label) c.requires.label_value in
-    fits_bits c.args.tap (done).0.said_fits
+    fits_bits c.args.tap (done).0.said_fits_lem
 
 pub enter-requires : goal.enter-requires
 enter-requires c =
@@ -32,10 +32,10 @@ enter-requires c =
     let w = c.args in tap-by-none (book_of w.b.now) w.tap (list_of w.label) c.requires.label_value in
     let same : body_of c.pack-w.result ≡ says c.args.tap =
     let t = c.args.tap in
-    ap body_of (c.pack-w.ensures ∙ sym (says-word t)) ∙ body-word (says t) (done).0.said_fits in
+    ap body_of (c.pack-w.ensures ∙ sym (says-word t)) ∙ body-word (says t) (done).0.said_fits_lem in
     let ws = c.args.b.now in
     let l = list_of c.args.label in
-    let fits = subst (λ w. T (body_fits w)) (sym c.pack-w.ensures) (tap-body c.args.tap (done).0.said_fits) in
+    let fits = subst (λ w. T (body_fits w)) (sym c.pack-w.ensures) (tap-body c.args.tap (done).0.said_fits_lem) in
     record {
       held = lawful-held ws c.requires.t;
       t = fits;
@@ -51,7 +51,7 @@ returns c =
     let w = c.args in tap-by-none (book_of w.b.now) w.tap (list_of w.label) c.requires.label_value in
     let same : body_of c.pack-w.result ≡ says c.args.tap =
     let t = c.args.tap in
-    ap body_of (c.pack-w.ensures ∙ sym (says-word t)) ∙ body-word (says t) (done).0.said_fits in
+    ap body_of (c.pack-w.ensures ∙ sym (says-word t)) ∙ body-word (says t) (done).0.said_fits_lem in
     let b = book_of c.args.b.now in
     let t = c.args.tap in
     let l = list_of c.args.label in
