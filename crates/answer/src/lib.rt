@@ -1,5 +1,7 @@
 // One whole message answered on a lent book, into a lent output: an answer as bytes, the room for it; and the bytes
 // that open a book.
+#![tactic(auto)]
+
 ghost use Rattle.promise.specs.Spoken.{spoken};
 ghost use Rattle.wire.specs.Write.{Meets};
 ghost use Rattle.answer.specs.Speech.{say_on};

@@ -1,4 +1,6 @@
 // The book on a lent slice: open, tap, question, send and gossip. Every entry judges its own arguments.
+#![tactic(auto)]
+
 ghost use Rattle.promise.specs.Lent.{Promise, tap_on, question_on, gossip_on, send_on, open_on};
 ghost use Rattle.open_step.specs.Opening.{Opens};
 ghost use Rattle.wire.specs.Write.{Meets};

@@ -1,4 +1,6 @@
 // Gossip on a sound book: why it is refused, by its head, then its records, judged before any word changes; its taking.
+#![tactic(auto)]
+
 ghost use Rattle.std.specs.Prelude.{◌≡◌, ◌<◌, ◌+◌, ◌-◌, ◌*◌, ◌≤◌, T, ltb, length};
 ghost use Rattle.lists.specs.Tests.{every, first_of};
 ghost use Rattle.limits.specs.Limits.{word, log_room};

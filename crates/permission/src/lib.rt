@@ -1,4 +1,6 @@
 // Permission, the rule that the car's functions use. It stands above the book and sees only what the book promises.
+#![tactic(auto)]
+
 ghost use Rattle.std.specs.Prelude.{◌≡◌};
 ghost use Rattle.promise.specs.Lent.{question_on};
 ghost use Rattle.meaning.specs.Reply.{permits};

@@ -1,5 +1,7 @@
 // The decisions of document 01's small program: what it does next, given the book, what is read so far, and whether the
 // input has ended.
+#![tactic(auto)]
+
 ghost use Rattle.std.specs.Prelude.{◌≡◌, false, ◌&&◌, ◌++◌, ◌≤◌, T, eqb, length, drop};
 ghost use Rattle.wire.specs.Kinds.{longest};
 ghost use Rattle.meaning.specs.Reply.{refusal};
