@@ -27,8 +27,7 @@ put-requires c =
 
 pub returns-then-out-lt-GOSSIP_ROOM : goal.returns-then-out-lt-GOSSIP_ROOM
 returns-then-out-lt-GOSSIP_ROOM c =
-    let clear : (let s = c.args in let h = c.stop-in-Clear-1.given.0 in
-    GossipStopOn s.b.now s.msg.now (Clear h.0 h.1.0 h.1.1.0 h.1.1.1.0 h.1.1.1.1.0)) =
+    let clear : (let s = c.args in GossipStopOn s.b.now s.msg.now (Clear c.in-Clear.sender c.in-Clear.screens c.in-Clear.count c.in-Clear.stamp c.in-Clear.new)) =
     let s = c.args in
     subst (λ (x : GossipStop). GossipStopOn s.b.now s.msg.now x) c.in-Clear.is c.gossip_stop-stop.ensures in
     let s = c.args in
@@ -37,8 +36,7 @@ returns-then-out-lt-GOSSIP_ROOM c =
 
 pub take_gossip-reply-requires : goal.take_gossip-reply-requires
 take_gossip-reply-requires c =
-    let clear : (let s = c.args in let h = c.stop-in-Clear-1.given.0 in
-    GossipStopOn s.b.now s.msg.now (Clear h.0 h.1.0 h.1.1.0 h.1.1.1.0 h.1.1.1.1.0)) =
+    let clear : (let s = c.args in GossipStopOn s.b.now s.msg.now (Clear c.in-Clear.sender c.in-Clear.screens c.in-Clear.count c.in-Clear.stamp c.in-Clear.new)) =
     let s = c.args in
     subst (λ (x : GossipStop). GossipStopOn s.b.now s.msg.now x) c.in-Clear.is c.gossip_stop-stop.ensures in
     let s = c.args in
@@ -52,8 +50,7 @@ take_gossip-reply-requires c =
 
 pub put-requires-in-Clear : goal.put-requires-in-Clear
 put-requires-in-Clear c =
-    let clear : (let s = c.args in let h = c.stop-in-Clear-1.given.0 in
-    GossipStopOn s.b.now s.msg.now (Clear h.0 h.1.0 h.1.1.0 h.1.1.1.0 h.1.1.1.1.0)) =
+    let clear : (let s = c.args in GossipStopOn s.b.now s.msg.now (Clear c.in-Clear.sender c.in-Clear.screens c.in-Clear.count c.in-Clear.stamp c.in-Clear.new)) =
     let s = c.args in
     subst (λ (x : GossipStop). GossipStopOn s.b.now s.msg.now x) c.in-Clear.is c.gossip_stop-stop.ensures in
     let taken : (let s = c.args in
@@ -77,8 +74,7 @@ returns-in-Stopped c =
 
 pub returns-else-out-lt-GOSSIP_ROOM : goal.returns-else-out-lt-GOSSIP_ROOM
 returns-else-out-lt-GOSSIP_ROOM c =
-    let clear : (let s = c.args in let h = c.stop-in-Clear-1.given.0 in
-    GossipStopOn s.b.now s.msg.now (Clear h.0 h.1.0 h.1.1.0 h.1.1.1.0 h.1.1.1.1.0)) =
+    let clear : (let s = c.args in GossipStopOn s.b.now s.msg.now (Clear c.in-Clear.sender c.in-Clear.screens c.in-Clear.count c.in-Clear.stamp c.in-Clear.new)) =
     let s = c.args in
     subst (λ (x : GossipStop). GossipStopOn s.b.now s.msg.now x) c.in-Clear.is c.gossip_stop-stop.ensures in
     let taken : (let s = c.args in
