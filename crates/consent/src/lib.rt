@@ -1,5 +1,7 @@
-// What a host in C, C++ or Rust links (include/consent.h): the proved operations under plain names. None has a
-// requires.
+// The proved operations under the plain names that a host in C, C++ or Rust calls (include/consent.h; the crate
+// consent_c exports them). None has a requires.
+#![tactic(auto)]
+
 ghost use Rattle.std.specs.Prelude.{◌≡◌};
 ghost use Rattle.replies.specs.Which.{reply_kind};
 ghost use Rattle.lent.specs.Words.{book_long};
@@ -19,16 +21,14 @@ use replies::reply_kind;
 const OPENED: u64 = 0;
 
 // The length of a lent book, in words.
-#[unsafe(no_mangle)]
-pub extern "C" fn consent_book_words() -> usize
+pub fn consent_book_words() -> usize
     ensures { result ≡ book_long }
 {
     BOOK
 }
 
 // The fresh book of one screen of a house, or the refusal's number.
-#[unsafe(no_mangle)]
-pub extern "C" fn consent_open(book: &mut [u64], screen: u64, screens: u64) -> u64
+pub fn consent_open(book: &mut [u64], screen: u64, screens: u64) -> u64
     ensures { OpensAs (open_on book.old screen screens) result book.new }
 {
     let opening = open(book, screen, screens);
@@ -39,8 +39,7 @@ pub extern "C" fn consent_open(book: &mut [u64], screen: u64, screens: u64) -> u
 }
 
 // The reply to one whole message of kind 1, 3, 4 or 12, and how long it is; 0 where the lent reply is too short for it.
-#[unsafe(no_mangle)]
-pub extern "C" fn consent_answer(book: &mut [u64], message: &[u8], reply: &mut [u8]) -> usize
+pub fn consent_answer(book: &mut [u64], message: &[u8], reply: &mut [u8]) -> usize
     ensures { Answers (answer_on book.old message.now reply.old) result
         book.new reply.new }
 {
@@ -48,24 +47,21 @@ pub extern "C" fn consent_answer(book: &mut [u64], message: &[u8], reply: &mut [
 }
 
 // Whether the car may do what a question asks about.
-#[unsafe(no_mangle)]
-pub extern "C" fn consent_permission(book: &[u64], message: &[u8]) -> bool
+pub fn consent_permission(book: &[u64], message: &[u8]) -> bool
     ensures { result ≡ permits (question_on book.now message.now).reply }
 {
     permission(book, message)
 }
 
 // How long the reply to a request is at most, by its byte of kind.
-#[unsafe(no_mangle)]
-pub extern "C" fn consent_reply_room(message: &[u8]) -> usize
+pub fn consent_reply_room(message: &[u8]) -> usize
     ensures { result ≡ room_for message.now }
 {
     reply_room(message)
 }
 
 // The kind of the reply that some bytes are, 5 to 10; 0 where they are none that keeps its field rules.
-#[unsafe(no_mangle)]
-pub extern "C" fn consent_reply_kind(reply: &[u8]) -> u8
+pub fn consent_reply_kind(reply: &[u8]) -> u8
     ensures { result ≡ reply_kind reply.now }
 {
     reply_kind(reply)

@@ -74,7 +74,7 @@ course_once n {h} v o (took i u said l d) =
       where
         free : Unheld b z
         free =
-            let says-z = ap (λ (y : Record). taps_in y.body) p ∙ new-taps b said l d.said_fits in
+            let says-z = ap (λ (y : Record). taps_in y.body) p ∙ new-taps b said l d.said_fits_lem in
             d.unheld z (subst (λ (ts : List Tap). z ∈ ts) says-z a)
 
     go : (r x : Record) → (r ≡ new) ⊎ (r ∈ h.history) → (x ≡ new) ⊎ (x ∈ h.history) → r.origin ≡ x.origin
