@@ -1,45 +1,49 @@
 // Plays the vectors of the file that its argument names: for each, whether document 01's small program writes just what
 // is expected.
+#![tactic(auto)]
+
 mod play;
 
-ghost use Rattle.std.specs.Prelude.{◌≡◌, length};
+ghost use Rattle.std.specs.Prelude.{◌≡◌, ◌≤◌, length, IfOk};
 ghost use Rattle.vectors.specs.File.{Inside, file_room};
 
-use libc::STDOUT_FILENO;
 use play::play;
+use std::io::Read;
+use std::{env, fs, io};
 use vectors::compare::Outcome;
 use vectors::file::{FILE_ROOM, NextVector, Part, entry_at};
 
 // A vector's line; whether it agrees.
-fn print_line(name: &[u8], outcome: Outcome) -> bool {
-    io::write_all(STDOUT_FILENO, name);
+fn print_line(rt: &impl Print, name: &[u8], outcome: Outcome) -> io::Result<bool> {
+    rt.write_all(name)?;
     match outcome {
         Outcome::Same(_) => {
-            io::write_all(STDOUT_FILENO, b" ok\n");
-            true
+            println!(rt; " ok")?;
+            Ok(true)
         }
         Outcome::Differs(place) => {
-            io::write_all(STDOUT_FILENO, b" differs at byte ");
-            io::print_decimal(STDOUT_FILENO, place as u64);
-            io::write_all(STDOUT_FILENO, b"\n");
-            false
+            println!(rt; " differs at byte {place}")?;
+            Ok(false)
         }
     }
 }
 
-fn print_total(agreed: u64, total: u64) {
-    io::print_decimal(STDOUT_FILENO, agreed);
-    io::write_all(STDOUT_FILENO, b" of ");
-    io::print_decimal(STDOUT_FILENO, total);
-    io::write_all(STDOUT_FILENO, b" vectors agree\n");
+fn print_total(rt: &impl Print, agreed: u64, total: u64) -> io::Result<()> {
+    println!(rt; "{agreed} of {total} vectors agree")
 }
 
-fn print_cut() {
-    io::write_all(STDOUT_FILENO, b"the file of vectors is cut\n");
+fn print_cut(rt: &impl Print) -> io::Result<()> {
+    println!(rt; "the file of vectors is cut")
 }
 
 // Runs one vector and writes its line; whether it agrees.
-fn try_vector(file: &[u8], name: Part, input: Part, output: Part) -> bool
+fn try_vector(
+    rt: &impl Print,
+    file: &[u8],
+    name: Part,
+    input: Part,
+    output: Part,
+) -> io::Result<bool>
     requires inside { Inside name file.now }
     requires inside_2 { Inside input file.now }
     requires inside_3 { Inside output file.now }
@@ -54,11 +58,11 @@ fn try_vector(file: &[u8], name: Part, input: Part, output: Part) -> bool
     );
     let name_start = name.start;
     let name_end = name.end;
-    print_line(&file[name_start..name_end], outcome)
+    print_line(rt, &file[name_start..name_end], outcome)
 }
 
 // Every vector up to the file's end.
-fn try_all(file: &[u8]) {
+fn try_all(rt: &impl Print, file: &[u8]) -> io::Result<()> {
     let mut at = 0;
     let mut agreed: u64 = 0;
     let mut total: u64 = 0;
@@ -70,23 +74,17 @@ fn try_all(file: &[u8]) {
                 input,
                 output,
             } => {
-                if try_vector(file, name, input, output) {
+                if try_vector(rt, file, name, input, output)? {
                     agreed += 1;
                 }
                 total += 1;
                 at = output.end;
             }
-            NextVector::End => {
-                print_total(agreed, total);
-                return;
-            }
-            NextVector::Cut => {
-                print_cut();
-                return;
-            }
+            NextVector::End => return print_total(rt, agreed, total),
+            NextVector::Cut => return print_cut(rt),
         }
     }
-    print_cut();
+    print_cut(rt)
 }
 
 // Its contract gives only the length, so that no proof looks at each of the zeros.
@@ -96,24 +94,34 @@ fn room() -> [u8; FILE_ROOM]
     [0; FILE_ROOM]
 }
 
-fn try_file(fd: i32) {
-    let mut file = room();
-    let n = io::read_full(fd, &mut file);
-    try_all(&file[..n]);
+// Reads until the buffer is full or the file ends; how many bytes came.
+fn read_full<R: Read>(from: &mut R, buf: &mut [u8]) -> io::Result<usize>
+    ensures { IfOk result (λ n. n ≤ length buf.new) }
+{
+    let mut done = 0;
+    while done < buf.len() {
+        let came = from.read(&mut buf[done..])?;
+        if came == 0 {
+            break;
+        }
+        done += came;
+    }
+    Ok(done)
 }
 
-fn main() {
-    let mut path = io::buffer();
-    let length = os::arg(1, &mut path);
-    if os::errno() != 0 {
-        os::fail(b"the argument that names the file of vectors");
-        return;
+fn try_file<R: Read>(rt: &impl Print, from: &mut R) -> io::Result<()> {
+    let mut file = room();
+    let n = read_full(from, &mut file)?;
+    try_all(rt, &file[..n])
+}
+
+fn main(rt: HostRuntime) -> io::Result<()> {
+    let mut arguments = env::args(&rt)?;
+    let Some(path) = arguments.nth(1) else {
+        return eprintln!(rt; "the argument that names the file of vectors is missing");
+    };
+    match fs::open(&rt, path.as_str()) {
+        Ok(mut file) => try_file(&rt, &mut file),
+        Err(error) => eprintln!(rt; "{path}: {error}"),
     }
-    let fd = os::open_read(&path[..length]);
-    if fd < 0 {
-        os::fail(&path[..length]);
-        return;
-    }
-    try_file(fd);
-    libc::close(fd);
 }

@@ -1,27 +1,39 @@
 // A screen as a program: a loop that reads standard input, asks what to do next, and writes. Every decision is the
 // library's.
-ghost use Rattle.std.specs.Prelude.{◌-◌, ◌≤◌, length};
+#![tactic(auto)]
+
+ghost use Rattle.std.specs.Prelude.{◌-◌, ◌≤◌, length, IfOk};
 
 use lent::BOOK;
-use libc::{STDIN_FILENO, STDOUT_FILENO};
 use program::{Turn, next_turn};
+use std::io;
+use std::io::Read;
 use wire::LONGEST;
 
 // Reads behind the first `have` bytes until there are n in all or the input ends; how many came.
-fn read_on(msg: &mut [u8], have: usize, n: usize) -> usize
+fn read_on<R: Read>(input: &mut R, msg: &mut [u8], have: usize, n: usize) -> io::Result<usize>
     requires { (have ≤ n) × (n ≤ length msg.old) }
-    ensures { result ≤ n - have }
+    ensures { IfOk result (λ got. got ≤ n - have) }
 {
-    io::read_full(STDIN_FILENO, &mut msg[have..n])
+    let mut got = 0;
+    while got < n - have {
+        let came = input.read(&mut msg[have + got..n])?;
+        if came == 0 {
+            break;
+        }
+        got += came;
+    }
+    Ok(got)
 }
 
-fn write_front(out: &[u8], said: usize)
+fn write_front(rt: &impl Print, out: &[u8], said: usize) -> io::Result<()>
     requires { said ≤ length out.now }
 {
-    io::write_all(STDOUT_FILENO, &out[0..said]);
+    rt.write_all(&out[0..said])
 }
 
-fn main() {
+fn main(rt: HostRuntime) -> io::Result<()> {
+    let mut input = rt.stdin();
     let mut book = [0u64; BOOK];
     let mut msg = [0u8; LONGEST];
     let mut out = [0u8; LONGEST];
@@ -35,20 +47,18 @@ fn main() {
         let turn = next_turn(&mut book, &msg[0..have], ended, opened, &mut out);
         match turn {
             Turn::Read(n) => {
-                let got = read_on(&mut msg, have, n);
+                let got = read_on(&mut input, &mut msg, have, n)?;
                 ended = got < n - have;
                 have += got;
             }
             Turn::Say { used: _, said } => {
-                write_front(&out, said);
+                write_front(&rt, &out, said)?;
                 have = 0;
                 opened = true;
             }
-            Turn::Last(said) => {
-                write_front(&out, said);
-                return;
-            }
-            Turn::Stop => return,
+            Turn::Last(said) => return write_front(&rt, &out, said),
+            Turn::Stop => return Ok(()),
         }
     }
+    Ok(())
 }

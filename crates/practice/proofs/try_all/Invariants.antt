@@ -1,0 +1,10 @@
+-- `practice::try_all` is safe and ends: each vector lies behind the one before. Assumes nothing.
+use Prim.Native.Nat.{◌≤◌, ◌-◌}
+use lib.ListN.{length}
+use Rattle.practice.proofs.try_all.Given as goal
+
+abbrev pub invariant-loop-at : goal.invariant-loop-at
+invariant-loop-at g l = (l.at ≤ length l.file) × (l.agreed ≤ l.total) × (l.total ≤ l.at)
+
+abbrev pub decreases-loop-at : goal.decreases-loop-at
+decreases-loop-at g l = length l.file - l.at

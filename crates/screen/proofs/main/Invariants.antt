@@ -1,0 +1,14 @@
+-- `screen::main` is safe and ends: what each turn asks for and says is within the arrays. Assumes nothing.
+use Prim.Native.Nat.{◌-◌, ◌≤◌}
+use mathlib.Core.Path.{◌≡◌}
+use lib.ListN.{length}
+use Rattle.wire.specs.Kinds.{longest}
+use Rattle.lent.specs.Words.{book_long}
+use Rattle.screen.proofs.main.Given as goal
+
+abbrev pub invariant-loop-turns : goal.invariant-loop-turns
+invariant-loop-turns l =
+    (length l.book ≡ book_long) × (length l.msg ≡ longest) × (length l.out ≡ longest) × (l.have ≤ longest)
+
+abbrev pub decreases-loop-turns : goal.decreases-loop-turns
+decreases-loop-turns l = l.turns
