@@ -8,12 +8,12 @@ cd "$(dirname "$0")"
 . ./link.sh
 archive=${1:-../target/staticlib/libconsent.a}
 if [ ! -f "$archive" ]; then
-    echo "There is no $archive. Run \`rt staticlib consent\` at the repository's top." >&2
+    echo "There is no $archive. Run \`tools/library.sh\` at the repository's top." >&2
     exit 1
 fi
 screen=../target/bin/screen
 if [ ! -x "$screen" ]; then
-    echo "There is no $screen. Run \`rt check screen\` at the repository's top." >&2
+    echo "There is no $screen. Run \`tools/library.sh\` at the repository's top." >&2
     exit 1
 fi
 link_archive . "$archive" "$screen"

@@ -1,6 +1,6 @@
 /*
  * The consent book of a family car, for a host in C or C++. Link target/staticlib/libconsent.a, which
- * `rt staticlib consent` writes.
+ * `tools/library.sh` builds.
  *
  * A host lends memory and hands in bytes. Nothing is asked of the arguments but that each pointer has its length of
  * memory behind it and that what is written overlaps nothing else that is lent: any words, any bytes and any lengths

@@ -1,6 +1,6 @@
 #!/bin/sh
 # usage: bench/run.sh
-# The tables of docs/SPEED.md for the machine at hand, of the library that `rt staticlib consent` wrote: first executed
+# The tables of docs/SPEED.md for the machine at hand, of the library that `tools/library.sh` built: first executed
 # instructions, which repeat, then times, which do not.
 set -eu
 
@@ -8,7 +8,7 @@ cd "$(dirname "$0")/.."
 . ./link.sh
 archive=../target/staticlib/libconsent.a
 if [ ! -f "$archive" ]; then
-    echo "There is no $archive. Run \`rt staticlib consent\` at the repository's top." >&2
+    echo "There is no $archive. Run \`tools/library.sh\` at the repository's top." >&2
     exit 1
 fi
 link_archive . "$archive"

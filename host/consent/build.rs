@@ -3,7 +3,7 @@
 use std::path::{Path, PathBuf};
 use std::{env, process};
 
-/// Says where the archive is, if not where `rt staticlib consent` writes it.
+/// Says where the archive is, if not where `tools/library.sh` writes it.
 const FOLDER: &str = "CONSENT_LIB_DIR";
 
 fn main() {
@@ -13,7 +13,7 @@ fn main() {
     println!("cargo:rerun-if-changed={}", archive.display());
     if !archive.is_file() {
         eprintln!("There is no {}.", archive.display());
-        eprintln!("Run `rt staticlib consent` at the repository's top, or set {FOLDER} to the folder that holds it.");
+        eprintln!("Run `tools/library.sh` at the repository's top, or set {FOLDER} to the folder that holds it.");
         process::exit(1);
     }
     println!("cargo:rustc-link-search=native={}", folder.display());

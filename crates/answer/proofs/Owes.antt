@@ -14,7 +14,7 @@ use Rattle.limits.specs.KindNumbers.{taken_number, gossip_taken_number}
 use Rattle.wire.specs.Requests.{tap_long, gossip_long}
 use Rattle.wire.specs.Kinds.{message_long, open_kind}
 use Rattle.wire.specs.Read.{line_of, readable, read_as}
-use Rattle.wire.specs.ReadLaws.{told}
+use Rattle.wire.proofs.ReadLaws.{told}
 use Rattle.wire.specs.Write.{Output, Meets, refuse}
 use Rattle.wire.specs.declared.Said.TheVariants as said
 use Rattle.wire.specs.declared.Written.{Written}

@@ -24,7 +24,7 @@ use Rattle.wire.specs.Requests.{tap_long, question_long, gossip_long, refusal_lo
 use Rattle.wire.specs.Read.{readable}
 use Rattle.wire.specs.Write.{writable}
 use Rattle.message.specs.Message.{message_bytes}
-use Rattle.message.specs.MessageLaws.{length-bytes-of}
+use Rattle.message.proofs.MessageLaws.{length-bytes-of}
 use Rattle.meaning.specs.BookLaws.{send-fits}
 use Rattle.meaning.specs.Reply.{Reply, taken, already, verdict, wait, refusal, gossiped}
 use Rattle.meaning.specs.Step.{send}

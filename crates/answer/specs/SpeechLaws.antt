@@ -13,7 +13,7 @@ use Rattle.std.proofs.Math.Bool.{not}
 use Rattle.std.proofs.Math.Option.{Option, none, some}
 use Rattle.std.proofs.Math.Dec.{T}
 use Rattle.lists.specs.TestLaws.{◌∈◌, here, there, either, clash, is_true, and_l, and_r, both, every-at, keep_le}
-use Rattle.lists.specs.ElementLaws.{first_passes}
+use Rattle.lists.proofs.ElementLaws.{first_passes}
 use Rattle.lists.specs.Tests.{every, exists, first_of}
 use Rattle.limits.specs.Limits.{parts, word, prompt_count, showings, log_room}
 use Rattle.stamp.specs.Laws.{Fits, fits, excess-few}
@@ -27,26 +27,27 @@ use Rattle.tally.specs.declared.Standing.{Standing}
 use Rattle.tally.specs.declared.Tap.{Tap}
 use Rattle.ledger.specs.LimitLaws.{range-parts}
 use Rattle.ledger.specs.Log.{newly_applied, gathered}
-use Rattle.ledger.specs.LogLaws.{put-log}
+use Rattle.ledger.proofs.LogLaws.{put-log}
 use Rattle.ledger.specs.Message.{Message}
 use Rattle.ledger.specs.Record.{Record, is_applied, stamp_of}
-use Rattle.ledger.specs.RecordLaws.{obeys, stamp-fits}
+use Rattle.ledger.proofs.RecordLaws.{obeys, stamp-fits}
 use Rattle.wire.specs.Requests.{tap_long, question_long, gossip_long}
 use Rattle.wire.specs.Kinds.{bits_width, size_of, stamp_body, tap_kind, question_kind, tap_at, stamp_at, taken_kind}
 use Rattle.wire.specs.Kinds.{already_kind}
 use Rattle.wire.specs.Kinds.{verdict_kind, wait_kind, refusal_kind, gossip_taken_kind, in_table}
-use Rattle.wire.specs.Laws.{length-written}
+use Rattle.wire.proofs.Laws.{length-written}
 use Rattle.wire.specs.Read.{line_of, readable}
 use Rattle.wire.specs.Said as wire
 use Rattle.wire.specs.Write.{writable, write_as}
 use Rattle.message.specs.Message.{well_formed, message_of}
-use Rattle.meaning.specs.AnswerLaws.{answered-done}
+use Rattle.meaning.proofs.AnswerLaws.{answered-done}
 use Rattle.meaning.specs.Book.{Book, known, ready, holds, standing_at, fresh}
 use Rattle.meaning.specs.BookLaws.{Sound, me_in, known-fits, standing_small, showing_small}
 use Rattle.meaning.specs.Reply.{Reply, taken, already, verdict, wait, refusal, gossiped, figures, is_taken, is_answered}
 use Rattle.meaning.specs.Step.{Outcome, stop_or, open_stops, new_record, take_out, first_stamp, tap_stops, tap_step, ask_stops}
 use Rattle.meaning.specs.Step.{answer_of, ask, new_ones, now_ready, now_applied, gossip_stops, gossip_step}
-use Rattle.meaning.specs.StepLaws.{TakeDone, next_word, tap_cases, GossipDone, gossip_cases}
+use Rattle.meaning.specs.Done.{TakeDone, GossipDone}
+use Rattle.meaning.proofs.StepLaws.{next_word, tap_cases, gossip_cases}
 use Rattle.lent.specs.SoundWords.{lawful-sound}
 use Rattle.lent.specs.Words.{book_long, book_of, words_of, lawful}
 use Rattle.promise.specs.Lent.{Lent, on_book, heard, tap_on, question_on, gossip_on, hear, of_tap, of_question, of_gossip}

@@ -18,23 +18,24 @@ use Rattle.stamp.specs.PartsLaws.{whole-stamp}
 use Rattle.stamp.specs.Stamp.{Stamp, part}
 use Rattle.stamp.specs.declared.Parts.{Parts}
 use Rattle.tally.specs.Tap.{FitsBits, tap_fits, fields, word_of}
-use Rattle.tally.specs.WordLaws.{fits_bits}
+use Rattle.tally.proofs.WordLaws.{fits_bits}
 use Rattle.tally.specs.declared.Tap.{Tap}
 use Rattle.ledger.specs.Log.{unknowns}
 use Rattle.ledger.specs.Record.{Record, place, is_known}
 use Rattle.book_log.specs.Region.{stamp_long}
-use Rattle.book_log.specs.Held.{climbed, climb, holds_all, climb-holds}
+use Rattle.book_log.specs.Held.{climbed, climb, holds_all}
+use Rattle.book_log.proofs.HeldLaws.{climb-holds}
 use Rattle.log_edit.specs.OrderLaws.{keep_append}
 use Rattle.wire.specs.Kinds.{Kind, record_kind, tap_at, head_long, record_long}
-use Rattle.wire.specs.Laws.{lawful_record}
+use Rattle.wire.proofs.Laws.{lawful_record}
 use Rattle.wire.specs.Read.{line_of, readable, read_as}
-use Rattle.wire.specs.ReadLaws.{told_line}
+use Rattle.wire.proofs.ReadLaws.{told_line}
 use Rattle.wire.specs.declared.Said.{Said}
 use Rattle.wire.specs.declared.Said.TheVariants as said
 use Rattle.message.specs.Find.{part_at}
 use Rattle.wire.specs.Head.{count_in}
 use Rattle.message.specs.Message.{records_kind, record_parts, record_from, records_in, in_order, well_formed}
-use Rattle.message.specs.MessageLaws.{length-records, record-held}
+use Rattle.message.proofs.MessageLaws.{length-records, record-held}
 use Rattle.message.specs.Parts.{part-rules}
 use Rattle.message.specs.Told.{well-long, well-order}
 use Rattle.arrivals.specs.Head.{Head, record_no}

@@ -7,7 +7,7 @@ use Rattle.limits.specs.Limits.{prompt_count}
 use Rattle.stamp.specs.Stamp.{at_most, stamp_fits}
 use Rattle.wire.specs.Kinds.{shaped, stamp_at, question_kind}
 use Rattle.wire.specs.Read.{line_of, readable}
-use Rattle.meaning.specs.AnswerLaws.{answered_exactly}
+use Rattle.meaning.proofs.AnswerLaws.{answered_exactly}
 use Rattle.meaning.specs.BookLaws.{at-sound}
 use Rattle.meaning.specs.Reply.{is_answered, refusal}
 use Rattle.meaning.specs.Step.{ask}

@@ -21,7 +21,7 @@ use Rattle.tally.specs.Tap.{tap_fits}
 use Rattle.tally.specs.declared.Tap.{Tap}
 use Rattle.wire.specs.Kinds.{shaped, tap_at, stamp_at, tap_kind, question_kind}
 use Rattle.wire.specs.Read.{line_of, readable, read_as}
-use Rattle.wire.specs.ReadLaws.{told}
+use Rattle.wire.proofs.ReadLaws.{told}
 use Rattle.wire.specs.Write.{Output, Meets, refuse}
 use Rattle.wire.specs.declared.Said.TheVariants as said
 use Rattle.wire.specs.declared.Written.{Written}
@@ -36,7 +36,7 @@ use Rattle.gossip_step.specs.Heard.{Heard}
 use Rattle.gossip_step.specs.Stop.{StopsGossip}
 use Rattle.gossip_step.specs.declared.GossipStop.{GossipStop}
 use Rattle.gossip_step.specs.declared.GossipStop.TheVariants as gossiped
-use Rattle.meaning.specs.AnswerLaws.{ask-keeps}
+use Rattle.meaning.proofs.AnswerLaws.{ask-keeps}
 use Rattle.meaning.specs.Reply.{Reply, refusal}
 use Rattle.meaning.specs.Step.{Outcome, tap_stops, tap_step, ask, send, gossip_stops, gossip_step}
 use Rattle.lent.specs.SoundWords.{lawful-held}

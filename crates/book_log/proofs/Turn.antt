@@ -12,7 +12,7 @@ use borrow.Author.Tests.{le-ltb, eq-eqb, ne_eqb}
 use Rattle.lists.specs.Scan.{rest, stored_more, le_or_lt}
 use Rattle.lists.specs.Rows.{rows}
 use Rattle.lists.specs.Order.{key_before, rising}
-use Rattle.lists.specs.Neighbours.{rising-next}
+use Rattle.lists.proofs.Neighbours.{rising-next}
 use Rattle.lists.specs.Tests.{all_below, every}
 use Rattle.lists.specs.TestLaws.{bit, either, keep-length}
 use Rattle.stamp.specs.Stamp.{Stamp, part}
@@ -23,7 +23,8 @@ use Rattle.ledger.specs.Record.{Record, place, is_waiting}
 use Rattle.book_log.specs.Region.{row_long, stamp_long}
 use Rattle.book_log.specs.Lowest.{meet, lowest_from}
 use Rattle.book_log.specs.Walk.{records_from, lent_at, record-lent, records-next, records-none}
-use Rattle.book_log.specs.Held.{holds_all, climbed, climb, climb-holds}
+use Rattle.book_log.specs.Held.{holds_all, climbed, climb}
+use Rattle.book_log.proofs.HeldLaws.{climb-holds}
 use Rattle.book_log.specs.First.{first_with}
 
 module _ (a b : Stamp) (i : ℕ) (ha : i < length a) (hb : i < length b) where

@@ -7,11 +7,11 @@ use Rattle.std.proofs.Math.Path.{ap}
 use Rattle.std.proofs.Common.{◌∙◌}
 use Rattle.lists.specs.Tests.{every}
 use Rattle.lists.specs.TestLaws.{same_test}
-use Rattle.lists.specs.ElementLaws.{every_and, every-same}
+use Rattle.lists.proofs.ElementLaws.{every_and, every-same}
 use Rattle.stamp.specs.Stamp.{Stamp, part, at_most, stamp_fits}
 use Rattle.stamp.specs.Laws.{at_most-parts, parts-at_most}
 use Rattle.ledger.specs.Record.{Record, is_known, is_applied, stamp_of, record_fits}
-use Rattle.ledger.specs.RecordLaws.{covered-applied, stamp_under}
+use Rattle.ledger.proofs.RecordLaws.{covered-applied, stamp_under}
 use Rattle.book_log.specs.Lowest.{goes_by}
 
 -- known, of fitting fields, not to go, and covered by the value stamp if it is applied

@@ -6,7 +6,7 @@ use mathlib.Core.List.{List}
 use Rattle.std.proofs.Math.Option.{Option, none, some}
 use Rattle.std.proofs.lemmas.Bool.{not-true}
 use Rattle.lists.specs.TestLaws.{is_true}
-use Rattle.lists.specs.ElementLaws.{first_passes}
+use Rattle.lists.proofs.ElementLaws.{first_passes}
 use Rattle.lists.specs.Tests.{first_of}
 use Rattle.meaning.specs.Book.{fresh}
 use Rattle.limits.specs.KindNumbers.{refusal_number}

@@ -9,7 +9,7 @@ use Rattle.lists.specs.Part.{mid}
 use Rattle.limits.specs.LimitLaws.{log-some}
 use Rattle.limits.specs.Limits.{log_room}
 use Rattle.wire.specs.Kinds.{body_by, head_long, longest, record_long}
-use Rattle.wire.specs.Laws.{body-few}
+use Rattle.wire.proofs.Laws.{body-few}
 use Rattle.wire.specs.declared.BodyLength.{BodyLength}
 use Rattle.wire.specs.declared.BodyLength.TheVariants.{Long, Bad}
 use Rattle.frames.specs.declared.Frame.{Frame}

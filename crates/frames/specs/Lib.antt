@@ -2,4 +2,3 @@ pub mod Frame
 pub mod FrameLaws
 pub mod Next
 pub mod NextLaws
-pub mod Cases

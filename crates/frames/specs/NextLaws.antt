@@ -12,7 +12,7 @@ use Rattle.std.proofs.lemmas.Bool.{lt-leb}
 use Rattle.std.proofs.Math.Dec.{T, eqb}
 use Rattle.std.proofs.Math.ListN.{get_or-append}
 use Rattle.lists.specs.TestLaws.{all_below-at, all_below-from}
-use Rattle.lists.specs.ElementLaws.{below-same}
+use Rattle.lists.proofs.ElementLaws.{below-same}
 use Rattle.lists.specs.Part.{mid_append}
 use Rattle.limits.specs.Limits.{log_room}
 use Rattle.limits.specs.KindNumbers.{head_number, record_number}

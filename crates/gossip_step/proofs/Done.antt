@@ -14,9 +14,10 @@ use Rattle.log_edit.specs.Merge.{Fresh}
 use Rattle.message.specs.Message.{records_in, message_of}
 use Rattle.meaning.specs.Book.{Book, row, known, ready}
 use Rattle.meaning.specs.BookLaws.{Sound, me_in}
-use Rattle.meaning.specs.SettleLaws as meaning
+use Rattle.meaning.proofs.SettleLaws as meaning
 use Rattle.meaning.specs.Step.{now_ready, now_applied, new_ones, gossip_rows, hear_book}
-use Rattle.meaning.specs.StepLaws.{GossipDone, gossip-now, gossip-ready}
+use Rattle.meaning.specs.Done.{GossipDone}
+use Rattle.meaning.proofs.StepLaws.{gossip-now, gossip-ready}
 use Rattle.book_log.specs.Region.{stamp_long}
 use Rattle.lent.specs.Held.{Held, held_is, book_is}
 use Rattle.lent.specs.SoundWords.{lawful-sound}

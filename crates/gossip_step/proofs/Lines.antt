@@ -16,7 +16,8 @@ use Rattle.stamp.specs.Stamp.{Stamp}
 use Rattle.ledger.specs.Log.{unknowns, gapless}
 use Rattle.ledger.specs.Record.{Record}
 use Rattle.book_log.specs.Region.{stamp_long}
-use Rattle.book_log.specs.Held.{holds_all, gapless-climb}
+use Rattle.book_log.specs.Held.{holds_all}
+use Rattle.book_log.proofs.HeldLaws.{gapless-climb}
 use Rattle.message.specs.Message.{records_in, message_of}
 use Rattle.meaning.specs.Book.{known, sound}
 use Rattle.meaning.specs.BookLaws.{at-sound}

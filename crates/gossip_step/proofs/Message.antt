@@ -10,9 +10,10 @@ use Rattle.stamp.specs.Stamp.{Stamp, stamp_fits}
 use Rattle.tally.specs.Body.{body_fits}
 use Rattle.ledger.specs.LimitLaws.{range-me}
 use Rattle.ledger.specs.Message.{message_fits}
-use Rattle.ledger.specs.MessageLaws.{Readable, readable}
+use Rattle.ledger.specs.Readable.{Readable}
+use Rattle.ledger.proofs.MessageLaws.{readable}
 use Rattle.message.specs.Message.{records_in, message_of}
-use Rattle.message.specs.MessageLaws.{length-records, well-fits}
+use Rattle.message.proofs.MessageLaws.{length-records, well-fits}
 use Rattle.gossip_step.specs.Heard.{Heard}
 
 module _ (bytes : List ℕ) (j n count : ℕ) (m : Stamp) (h : Heard bytes j n count m) where

@@ -19,7 +19,7 @@ ghost use Rattle.lent.specs.With.{with_table, with_log};
 ghost use Rattle.gossip_step.specs.Taken.{raised_rows, Raisable, Coming};
 ghost use Rattle.std.proofs.Math.Option.{none};
 ghost use Rattle.meaning.specs.Step.{now_applied, new_ones, hear_book, gossip_stops, gossip_step};
-ghost use Rattle.meaning.specs.StepLaws.{GossipDone};
+ghost use Rattle.meaning.specs.Done.{GossipDone};
 ghost use Rattle.promise.specs.Lent.{Promise};
 ghost use Rattle.promise.specs.LentLaws.{lent_of};
 ghost use Rattle.gossip_step.specs.Heard.{Heard};

@@ -7,22 +7,22 @@ use mathlib.Core.Bool.{not}
 use mathlib.Core.List.{List}
 use lib.Dec.{T, ltb, ltb→lt, nltb→le, eqb, eqb→eq}
 use Rattle.lists.specs.TestLaws.{◌∈◌, either, tell, not-from, given, clash}
-use Rattle.lists.specs.ElementLaws.{eq→eqb}
+use Rattle.lists.proofs.ElementLaws.{eq→eqb}
 use Rattle.limits.specs.Limits.{decline, accept, fewest, most}
 use Rattle.stamp.specs.Laws.{at_most-parts}
 use Rattle.stamp.specs.Stamp.{Stamp, at_most}
 use Rattle.tally.specs.Body.{taps_in, body_fits}
-use Rattle.tally.specs.BodyLaws.{taps-body}
+use Rattle.tally.proofs.BodyLaws.{taps-body}
 use Rattle.tally.specs.Standing.{standing, contested, verdict_of, highest, of_prompt}
 use Rattle.tally.specs.declared.Standing.{Standing}
-use Rattle.tally.specs.StandingLaws.{decline-counted, standing-over, accepted-only, accept-there, standing-showing}
-use Rattle.tally.specs.StandingLaws.{both-contested, accept-counted, contested-not}
+use Rattle.tally.proofs.StandingLaws.{decline-counted, standing-over, accepted-only, accept-there, standing-showing}
+use Rattle.tally.proofs.StandingLaws.{both-contested, accept-counted, contested-not}
 use Rattle.tally.specs.Tap.{tap_fits}
-use Rattle.tally.specs.TapLaws.{prompt_in_lem, answer_either}
+use Rattle.tally.proofs.TapLaws.{prompt_in_lem, answer_either}
 use Rattle.tally.specs.declared.Tap.{Tap}
 use Rattle.ledger.specs.Record.{Record, stamp_of, is_applied}
-use Rattle.ledger.specs.RecordLaws.{obeys}
-use Rattle.meaning.specs.AnswerLaws.{Permitted, permits-means}
+use Rattle.ledger.proofs.RecordLaws.{obeys}
+use Rattle.meaning.proofs.AnswerLaws.{Permitted, permits-means}
 use Rattle.meaning.specs.Book.{Book, ready, standing_at}
 use Rattle.meaning.specs.Reply.{showing_of, permits}
 use Rattle.meaning.specs.Step.{ask}

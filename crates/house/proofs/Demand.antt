@@ -8,31 +8,31 @@ use mathlib.Core.List.{List, [], ◌∷◌}
 use lib.Dec.{T, eqb, eqb→eq, ltb→lt}
 use lib.ListN.{length}
 use Rattle.lists.specs.TestLaws.{◌∈◌, keep_mem, mem-keep, either, none_in, clash, and_l, and_r, or_cases}
-use Rattle.lists.specs.ElementLaws.{same_or_not, eq→eqb}
+use Rattle.lists.proofs.ElementLaws.{same_or_not, eq→eqb}
 use Rattle.lists.specs.Order.{rising}
-use Rattle.lists.specs.Sorted.{rising-same}
+use Rattle.lists.proofs.Sorted.{rising-same}
 use Rattle.limits.specs.Limits.{parts, prompt_count, most, fewest}
 use Rattle.stamp.specs.Laws.{covers-both, fits, zeros-part, Fits, fits-zeros, Covers, at_most-parts, parts-at_most}
 use Rattle.stamp.specs.Stamp.{Stamp, at_most, zeros, part, stamp_fits}
 use Rattle.tally.specs.Body.{taps_in, body_fits}
 use Rattle.tally.specs.Standing.{distinct, standing}
-use Rattle.tally.specs.StandingLaws.{count-has, count-put}
+use Rattle.tally.proofs.StandingLaws.{count-has, count-put}
 use Rattle.tally.specs.Tap.{fields}
 use Rattle.tally.specs.declared.Tap.{Tap}
 use Rattle.ledger.specs.LimitLaws.{range-parts}
 use Rattle.ledger.specs.Log.{merge_all, gapless}
-use Rattle.ledger.specs.LogLaws.{merge_all-over, merge_all_under, merge_all-fits, gapless-from}
+use Rattle.ledger.proofs.LogLaws.{merge_all-over, merge_all_under, merge_all-fits, gapless-from}
 use Rattle.ledger.specs.Message.{Message, message_fits}
 use Rattle.ledger.specs.Record.{Record, is_waiting, is_applied, is_known, has, stamp_of}
-use Rattle.ledger.specs.RecordLaws.{Obeys, stamp-fits, stamp_under, obeys, waiting-known, go-applied, waiting-not}
-use Rattle.ledger.specs.RecordLaws.{covered-applied, applied-label, has-from, le-known, known_le}
-use Rattle.meaning.specs.AnswerLaws.{done-answered, answered-done, AskDone}
+use Rattle.ledger.proofs.RecordLaws.{Obeys, stamp-fits, stamp_under, obeys, waiting-known, go-applied, waiting-not}
+use Rattle.ledger.proofs.RecordLaws.{covered-applied, applied-label, has-from, le-known, known_le}
+use Rattle.meaning.proofs.AnswerLaws.{done-answered, answered-done, AskDone}
 use Rattle.meaning.specs.Book.{known, ready, Book, sound, standing_at, row}
 use Rattle.meaning.specs.BookLaws.{standing-at, row-me, at-sound, known-fits, applied-here}
 use Rattle.meaning.specs.Reply.{Reply, is_answered}
-use Rattle.meaning.specs.SettleLaws.{mem-taps, taps_mem}
+use Rattle.meaning.proofs.SettleLaws.{mem-taps, taps_mem}
 use Rattle.meaning.specs.Step.{taps_of, gossip_stops, gossip_step, Outcome, ask}
-use Rattle.meaning.specs.StepLaws.{gossip_cases}
+use Rattle.meaning.proofs.StepLaws.{gossip_cases}
 use Rattle.house.specs.Demand.{exactly_one, is_unknown, applied_of, applied_taps, HeardAs, is_returned, is-old}
 use Rattle.house.specs.Demand.{is_spent, no_room, is-taken, Demand}
 use Rattle.house.specs.House.{House, still, Step, after, Later, Run}

@@ -8,21 +8,21 @@ use mathlib.Core.List.{List, [], ◌∷◌}
 use lib.Dec.{T, eqb, eqb→eq, ltb, ltb→lt, nltb→le}
 use lib.ListN.{get_or}
 use Rattle.lists.specs.TestLaws.{◌∈◌, either, is_true, is_false, not-from, tell}
-use Rattle.lists.specs.ElementLaws.{same_or_not, eq→eqb}
-use Rattle.lists.specs.Sorted.{rising-one}
+use Rattle.lists.proofs.ElementLaws.{same_or_not, eq→eqb}
+use Rattle.lists.proofs.Sorted.{rising-one}
 use Rattle.stamp.specs.Laws.{Covers}
 use Rattle.stamp.specs.Stamp.{Stamp, part}
 use Rattle.tally.specs.Body.{taps_in, body_fits}
 use Rattle.tally.specs.declared.Tap.{Tap}
 use Rattle.ledger.specs.Log.{gathered}
-use Rattle.ledger.specs.LogLaws.{put-log}
+use Rattle.ledger.proofs.LogLaws.{put-log}
 use Rattle.ledger.specs.Message.{Message, message_fits}
 use Rattle.ledger.specs.Record.{Record, may_go, is_applied, stamp_of, record_fits, place, has}
-use Rattle.ledger.specs.RecordLaws.{obeys, has-at, go-applied, applied_mono}
+use Rattle.ledger.proofs.RecordLaws.{obeys, has-at, go-applied, applied_mono}
 use Rattle.meaning.specs.Book.{known, ready, Book, row}
-use Rattle.meaning.specs.SettleLaws.{Ready, known-now, known-rise, ready-rise, new-gathered, settle-sound, log-from}
-use Rattle.meaning.specs.SettleLaws.{log_or-gone, go-rise, counted-from, counted-now, counted-old, value-now, value-old}
-use Rattle.meaning.specs.SettleLaws.{value_least}
+use Rattle.meaning.proofs.SettleLaws.{Ready, known-now, known-rise, ready-rise, new-gathered, settle-sound, log-from}
+use Rattle.meaning.proofs.SettleLaws.{log_or-gone, go-rise, counted-from, counted-now, counted-old, value-now, value-old}
+use Rattle.meaning.proofs.SettleLaws.{value_least}
 use Rattle.meaning.specs.BookLaws.{Sound, applied-here}
 use Rattle.meaning.specs.Step.{settle}
 use Rattle.house.specs.House.{House, put}

@@ -11,7 +11,7 @@ use lib.Dec.{T, eqb, ltb, ltb→lt, nltb→le}
 use lib.ListN.{length, get_or, take, drop}
 use lib.Seq.{take_at}
 use Rattle.lists.specs.TestLaws.{◌∈◌, either, is_true, here, there, none_in}
-use Rattle.lists.specs.ElementLaws.{eq→eqb}
+use Rattle.lists.proofs.ElementLaws.{eq→eqb}
 use Rattle.lists.specs.Tests.{first_of}
 use Rattle.limits.specs.Limits.{fewest, most}
 use Rattle.tally.specs.Body.{body_fits}
@@ -23,7 +23,7 @@ use Rattle.wire.specs.Read.{line_of, readable}
 use Rattle.wire.specs.Write.{Output, refuse}
 use Rattle.wire.specs.declared.Written.TheVariants.{Wrote}
 use Rattle.message.specs.Message.{well_formed, message_of, message_bytes}
-use Rattle.message.specs.MessageLaws.{message-bytes, bytes_well}
+use Rattle.message.proofs.MessageLaws.{message-bytes, bytes_well}
 use Rattle.meaning.specs.Book.{Book, fresh}
 use Rattle.meaning.specs.BookLaws.{Sound}
 use Rattle.meaning.specs.Reply.{Reply, refusal, permits}

@@ -7,7 +7,7 @@ use mathlib.Core.List.{List, ◌∷◌, []}
 use lib.Dec.{eqb, T, eqb→eq}
 use lib.ListN.{length}
 use Rattle.lists.specs.TestLaws.{bit, is_true, is_false, not-from, both, either, keep-length}
-use Rattle.lists.specs.ElementLaws.{eq→eqb}
+use Rattle.lists.proofs.ElementLaws.{eq→eqb}
 use Rattle.lists.specs.Tests.{keep}
 use Rattle.limits.specs.Limits.{fewest, most}
 use Rattle.stamp.specs.Laws.{part_replaced, part-merge}
@@ -16,7 +16,7 @@ use Rattle.ledger.specs.Record.{Record}
 use Rattle.meaning.specs.Book.{known, Book}
 use Rattle.meaning.specs.BookLaws.{fresh-known}
 use Rattle.meaning.specs.Step.{new_record, own_rows, take_book, gossip_rows, new_ones, hear_book}
-use Rattle.meaning.specs.StepLaws.{new-number, new-origin, own-now, next_known, gossip-now}
+use Rattle.meaning.proofs.StepLaws.{new-number, new-origin, own-now, next_known, gossip-now}
 use Rattle.house.specs.Demand.{right_numbers}
 use Rattle.house.specs.House.{House, after_send, put, onward, Run, open_house, opened}
 use Rattle.house.proofs.Invariant.{known_of, Inv, known_either}

@@ -13,13 +13,14 @@ use Rattle.limits.specs.Limits.{fewest, most}
 use Rattle.stamp.specs.Stamp.{part}
 use Rattle.tally.specs.Body.{taps_in}
 use Rattle.tally.specs.Standing.{among}
-use Rattle.tally.specs.TapLaws.{mem-among}
+use Rattle.tally.proofs.TapLaws.{mem-among}
 use Rattle.tally.specs.declared.Tap.{Tap}
 use Rattle.ledger.specs.Record.{Record}
-use Rattle.ledger.specs.RecordLaws.{go-applied}
+use Rattle.ledger.proofs.RecordLaws.{go-applied}
 use Rattle.meaning.specs.Book.{Book, holds, ready}
 use Rattle.meaning.specs.Step.{new_record}
-use Rattle.meaning.specs.StepLaws.{new-origin, new-taps, Unheld}
+use Rattle.meaning.specs.Done.{Unheld}
+use Rattle.meaning.proofs.StepLaws.{new-origin, new-taps}
 use Rattle.house.specs.House.{House, after_send, Run, open_house, opened, onward}
 use Rattle.house.proofs.Invariant.{Inv, known_of, ScreenOk}
 use Rattle.house.proofs.Runs.{course, Course, stays, sent-one, heard, took, run_inv}

@@ -9,7 +9,7 @@ use mathlib.Core.List.{[], List, ◌∷◌, ◌++◌}
 use lib.Dec.{T}
 use lib.ListN.{get_or, length}
 use Rattle.lists.specs.TestLaws.{none_in, either, is_false, here, there, ◌∈◌}
-use Rattle.lists.specs.ElementLaws.{same_or_not}
+use Rattle.lists.proofs.ElementLaws.{same_or_not}
 use Rattle.limits.specs.Limits.{fewest, most}
 use Rattle.stamp.specs.Laws.{zeros-part, part-other, part-merge, Covers}
 use Rattle.stamp.specs.Stamp.{part, Stamp}
@@ -17,17 +17,18 @@ use Rattle.tally.specs.Body.{Body, says}
 use Rattle.ledger.specs.LimitLaws.{range-from}
 use Rattle.ledger.specs.Message.{Message}
 use Rattle.ledger.specs.Record.{Record, stamp_of, may_go}
-use Rattle.ledger.specs.RecordLaws.{everywhere-at, go-everywhere}
-use Rattle.meaning.specs.AnswerLaws.{ask-keeps}
+use Rattle.ledger.proofs.RecordLaws.{everywhere-at, go-everywhere}
+use Rattle.meaning.proofs.AnswerLaws.{ask-keeps}
 use Rattle.meaning.specs.Book.{fresh, known, ready, row, Book}
 use Rattle.meaning.specs.Reply.{taken, Reply, is_taken}
-use Rattle.meaning.specs.SettleLaws.{value-old}
+use Rattle.meaning.proofs.SettleLaws.{value-old}
 use Rattle.meaning.specs.BookLaws.{fresh-sound, fresh-known, fresh-row, send-fits}
 use Rattle.meaning.specs.Request.{Request, tapped, asked, told, makes, step}
 use Rattle.meaning.specs.Step.{tap_step, Outcome, new_record, own_rows, take_book, take_out, ask, send}
 use Rattle.meaning.specs.Step.{gossip_rows, new_ones, hear_book, hear_out}
-use Rattle.meaning.specs.StepLaws.{Stopped, TakeDone, take-ready, new-origin, own-now, own_row, GossipDone}
-use Rattle.meaning.specs.StepLaws.{gossip-ready, new_ones_lem, gossip-now, gossip-row, tap_cases, gossip_cases}
+use Rattle.meaning.specs.Done.{TakeDone, GossipDone}
+use Rattle.meaning.proofs.StepLaws.{Stopped, take-ready, new-origin, own-now, own_row}
+use Rattle.meaning.proofs.StepLaws.{gossip-ready, new_ones_lem, gossip-now, gossip-row, tap_cases, gossip_cases}
 use Rattle.house.specs.House.{open_house, House, put, grown, MayCome, Step, asks, sends, after_request, after_send}
 use Rattle.house.specs.House.{onward, Run, opened}
 use Rattle.house.proofs.Invariant.{ScreenOk, Inv, put_either, put_back, Onward, known_of, SentOk, screen_mono}

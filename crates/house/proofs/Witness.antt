@@ -9,8 +9,8 @@ use lib.Dec.{T}
 use Rattle.lists.specs.TestLaws.{here}
 use Rattle.limits.specs.Limits.{accept, decline}
 use Rattle.tally.specs.declared.Tap.{Tap}
-use Rattle.ledger.specs.Cases.{at}
-use Rattle.meaning.specs.Cases.{tapped, says}
+use Rattle.ledger.proofs.Cases.{at}
+use Rattle.meaning.proofs.Cases.{tapped, says}
 use Rattle.meaning.specs.Reply.{figures, permits}
 use Rattle.meaning.specs.Request as request
 use Rattle.meaning.specs.Step.{send}

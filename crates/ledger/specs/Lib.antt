@@ -1,9 +1,6 @@
 pub mod Record
 pub mod Message
 pub mod Log
-pub mod Cases
 pub mod LimitLaws
-pub mod RecordLaws
-pub mod MessageLaws
-pub mod LogLaws
+pub mod Readable
 pub mod ReadyLaws

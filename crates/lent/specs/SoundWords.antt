@@ -3,17 +3,17 @@
 use Rattle.std.specs.Prelude.{ℕ, List, [], ◌∷◌, T, length}
 use Rattle.std.proofs.Common.{sym, subst}
 use Rattle.lists.specs.TestLaws.{◌∈◌, and_l, and_r, both, every-from}
-use Rattle.lists.specs.ElementLaws.{eq→eqb}
+use Rattle.lists.proofs.ElementLaws.{eq→eqb}
 use Rattle.lists.specs.RowLaws.{Wide}
 use Rattle.lists.specs.Tests.{every}
 use Rattle.limits.specs.Limits.{parts}
 use Rattle.stamp.specs.Laws.{fits}
 use Rattle.stamp.specs.Stamp.{Stamp, stamp_fits}
 use Rattle.tally.specs.Body.{body_fits}
-use Rattle.tally.specs.WordLaws.{fits_bits}
+use Rattle.tally.proofs.WordLaws.{fits_bits}
 use Rattle.ledger.specs.LimitLaws.{range-most}
 use Rattle.ledger.specs.Record.{Record, record_fits}
-use Rattle.ledger.specs.RecordLaws.{obeys}
+use Rattle.ledger.proofs.RecordLaws.{obeys}
 use Rattle.book_log.specs.RegionLaws.{whole_label}
 use Rattle.meaning.specs.Book.{Book, sound}
 use Rattle.meaning.specs.BookLaws.{Sound, sound-at, at-sound, counted-few, prompts-long}

@@ -10,7 +10,7 @@ use Rattle.std.proofs.Math.Bool.{true}
 use Rattle.std.proofs.Math.Dec.{T, eqb→eq}
 use Rattle.std.proofs.lemmas.List.{length-replicate, length-map}
 use Rattle.lists.specs.TestLaws.{all-at, both}
-use Rattle.lists.specs.ElementLaws.{eq→eqb, every-replicate}
+use Rattle.lists.proofs.ElementLaws.{eq→eqb, every-replicate}
 use Rattle.lists.specs.Pieces.{sum_of, flat-long}
 use Rattle.lists.specs.RowLaws.{Wide, length-rows, length-flat, flat_rows, rows-flat}
 use Rattle.lists.specs.Rows.{rows, flat}

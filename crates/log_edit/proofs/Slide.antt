@@ -12,8 +12,8 @@ use lib.Seq.{get_or-take, get_or-set_same, take-take, take-set-le, drop-set-lt, 
 use Rattle.lists.specs.Tests.{every}
 use Rattle.lists.specs.TestLaws.{◌∈◌, either, here, none_in, is_true, is_false, not-from, every-at}
 use Rattle.lists.specs.Order.{key_before, rising}
-use Rattle.lists.specs.Sorted.{before_trans}
-use Rattle.lists.specs.Neighbours.{rising-front}
+use Rattle.lists.proofs.Sorted.{before_trans}
+use Rattle.lists.proofs.Neighbours.{rising-front}
 use Rattle.lists.specs.Part.{mid, patch, length-patch, drop-patch}
 use Rattle.lists.specs.Rows.{rows}
 use Rattle.ledger.specs.Record.{Record, place}

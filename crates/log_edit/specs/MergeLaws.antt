@@ -11,8 +11,8 @@ use mathlib.Core.List.Memᴰ
 use Rattle.std.proofs.Math.Dec.{T}
 use Rattle.lists.specs.Order.{key_before, insert_all}
 use Rattle.lists.specs.TestLaws.{◌∈◌, either, here, keep_mem}
-use Rattle.lists.specs.Sorted.{before_trans, keep-rising}
-use Rattle.lists.specs.Neighbours.{rising-front}
+use Rattle.lists.proofs.Sorted.{before_trans, keep-rising}
+use Rattle.lists.proofs.Neighbours.{rising-front}
 use Rattle.ledger.specs.Record.{Record, place}
 use Rattle.ledger.specs.Log.{gathered}
 use Rattle.log_edit.specs.Merge.{after_of, before_of, Fresh}

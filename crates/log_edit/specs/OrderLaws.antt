@@ -12,9 +12,9 @@ use mathlib.Core.List.Memᴰ
 use Rattle.lists.specs.Tests.{keep}
 use Rattle.lists.specs.Order.{key_before, rising, insert, insert_all}
 use Rattle.lists.specs.TestLaws.{◌∈◌, either, here, there, none_in, every-from, is_true, keep-none}
-use Rattle.lists.specs.Sorted.{before_trans, before_irrefl, before-total, head-before, tail-rising, put_all}
-use Rattle.lists.specs.Neighbours.{insert-front}
-use Rattle.lists.specs.ElementLaws.{OneMore, at, later, insert-new}
+use Rattle.lists.proofs.Sorted.{before_trans, before_irrefl, before-total, head-before, tail-rising, put_all}
+use Rattle.lists.proofs.Neighbours.{insert-front}
+use Rattle.lists.proofs.ElementLaws.{OneMore, at, later, insert-new}
 
 module _ {A : Type 0} where
   pub keep_append : (p : A → Bool) (xs ys : List A) → keep p (xs ++ ys) ≡ keep p xs ++ keep p ys

@@ -19,7 +19,8 @@ use Rattle.lists.specs.Tests.{every, keep}
 use Rattle.stamp.specs.Stamp.{Stamp}
 use Rattle.ledger.specs.Record.{Record}
 use Rattle.ledger.specs.Log.{gathered, remaining}
-use Rattle.book_log.specs.Lowest.{lowest_from, goes_by, may_go_lowest}
+use Rattle.book_log.specs.Lowest.{lowest_from, goes_by}
+use Rattle.book_log.proofs.LowestLaws.{may_go_lowest}
 use Rattle.book_log.specs.Region.{row_long, record_at, row_of, records_at, log_words}
 use Rattle.book_log.specs.RegionLaws.{whole_label, row_record_lem, records-words, length-log}
 use Rattle.log_edit.specs.Merge.{after_of, Fresh, Slid, merged, stayers, dropped}

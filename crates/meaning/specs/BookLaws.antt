@@ -5,7 +5,7 @@ use Rattle.std.proofs.Common.{arith, ap, subst, ◌∙◌, eqb→eq, leb→le, l
 use Rattle.std.proofs.lemmas.List.{length-replicate}
 use Rattle.lists.specs.TestLaws.{◌∈◌, every-at, every-get_or, if-then, given, all_from, ◌also◌, every-from, get_or-every}
 use Rattle.lists.specs.TestLaws.{then_if, done, none_in, get_or_in}
-use Rattle.lists.specs.ElementLaws.{eq→eqb, every-replicate}
+use Rattle.lists.proofs.ElementLaws.{eq→eqb, every-replicate}
 use Rattle.lists.specs.Order.{rising}
 use Rattle.lists.specs.Tests.{every}
 use Rattle.limits.specs.LimitLaws.{rooms_small}
@@ -15,18 +15,18 @@ use Rattle.stamp.specs.Laws.{fits-zeros}
 use Rattle.stamp.specs.Stamp.{stamp_fits, total, part, at_most, zeros}
 use Rattle.tally.specs.Body.{body_fits, taps_in}
 use Rattle.tally.specs.Standing.{afresh, among, same_counts, standing, blank}
-use Rattle.tally.specs.StandingLaws.{counts_same, counts-refl, afresh-at, afresh-few, afresh-length, standing_in_lem}
+use Rattle.tally.proofs.StandingLaws.{counts_same, counts-refl, afresh-at, afresh-few, afresh-length, standing_in_lem}
 use Rattle.tally.specs.Tap.{fields, tap_fits}
-use Rattle.tally.specs.TapLaws.{among_mem, mem-among}
+use Rattle.tally.proofs.TapLaws.{among_mem, mem-among}
 use Rattle.tally.specs.declared.Standing.{Standing}
 use Rattle.tally.specs.declared.Tap.{Tap}
 use Rattle.ledger.specs.LimitLaws.{range-me}
 use Rattle.ledger.specs.Log.{waiting_in}
-use Rattle.ledger.specs.LogLaws.{held_at, held-from}
+use Rattle.ledger.proofs.LogLaws.{held_at, held-from}
 use Rattle.ledger.specs.Message.{in_range, message_fits, message_rules}
 use Rattle.ledger.specs.Record.{place, Record, record_fits, has, everywhere, may_go, is_applied, stamp_of, is_known}
 use Rattle.ledger.specs.ReadyLaws.{ready-most}
-use Rattle.ledger.specs.RecordLaws.{known_le, le-known, applied-known}
+use Rattle.ledger.proofs.RecordLaws.{known_le, le-known, applied-known}
 use Rattle.meaning.specs.Book.{Book, row, known, ready, waiting, fresh, sound, clauses, counted_in, standing_at}
 use Rattle.meaning.specs.Step.{send}
 

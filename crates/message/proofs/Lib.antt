@@ -1,2 +1,4 @@
 pub mod Turn
 pub mod Lines
+pub mod FindLaws
+pub mod MessageLaws

@@ -12,9 +12,9 @@ use Rattle.limits.specs.Limits.{log_room}
 use Rattle.stamp.specs.declared.Parts.{Parts}
 use Rattle.stamp.specs.Parts.{list_of, parts_at}
 use Rattle.wire.specs.Kinds.{head_kind, record_kind, head_long, record_long}
-use Rattle.wire.specs.Laws.{length-readable, lawful-head}
+use Rattle.wire.proofs.Laws.{length-readable, lawful-head}
 use Rattle.wire.specs.Read.{readable, read_as}
-use Rattle.wire.specs.ReadLaws.{told}
+use Rattle.wire.proofs.ReadLaws.{told}
 use Rattle.wire.specs.declared.Said.TheVariants as said
 use Rattle.wire.specs.Head.{head_line, count_in}
 use Rattle.message.specs.Message.{parts_of, in_order, well_formed, read_gossip}

@@ -9,8 +9,8 @@ use lib.Dec.{T, ltb}
 use lib.ListN.{length, drop, drop_of_length-le}
 use borrow.Author.Tests.{lt-ltb}
 use Rattle.lists.specs.TestLaws.{is_true}
-use Rattle.lists.specs.ElementLaws.{regroup}
-use Rattle.lists.specs.Neighbours.{rising-next}
+use Rattle.lists.proofs.ElementLaws.{regroup}
+use Rattle.lists.proofs.Neighbours.{rising-next}
 use Rattle.lists.specs.Order.{key_before, rising}
 use Rattle.lists.specs.Tests.{every, keep}
 use Rattle.stamp.specs.Stamp.{Stamp}
@@ -18,11 +18,11 @@ use Rattle.stamp.specs.declared.Parts.{Parts}
 use Rattle.tally.specs.declared.Tap.{Tap}
 use Rattle.tally.specs.Body.{body_fits}
 use Rattle.ledger.specs.Record.{Record, place}
-use Rattle.ledger.specs.RecordLaws.{obeys}
+use Rattle.ledger.proofs.RecordLaws.{obeys}
 use Rattle.wire.specs.Kinds.{Kind, record_kind}
-use Rattle.wire.specs.Laws.{lawful_record}
+use Rattle.wire.proofs.Laws.{lawful_record}
 use Rattle.wire.specs.Read.{line_of, readable, read_as}
-use Rattle.wire.specs.ReadLaws.{told, told_line, untold}
+use Rattle.wire.proofs.ReadLaws.{told, told_line, untold}
 use Rattle.wire.specs.declared.Said.{Said}
 use Rattle.wire.specs.declared.Said.TheVariants as said
 use Rattle.message.specs.Message.{parts_of, record_from, in_order}

@@ -4,6 +4,4 @@ pub mod Parts
 pub mod Told
 pub mod Tags
 pub mod Runs
-pub mod FindLaws
 pub mod LineLaws
-pub mod MessageLaws

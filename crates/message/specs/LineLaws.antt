@@ -19,16 +19,16 @@ use Rattle.stamp.specs.Stamp.{Stamp, part, stamp_fits}
 use Rattle.stamp.specs.declared.Parts.{Parts}
 use Rattle.numbers.specs.Fields.{fields_fit}
 use Rattle.tally.specs.Body.{body_fits}
-use Rattle.tally.specs.BodyLaws.{body_tap}
+use Rattle.tally.proofs.BodyLaws.{body_tap}
 use Rattle.tally.specs.Tap.{fields, tap_fits, tap_of}
-use Rattle.tally.specs.WordLaws.{fits_bits, word_tap, tap-word}
+use Rattle.tally.proofs.WordLaws.{fits_bits, word_tap, tap-word}
 use Rattle.tally.specs.declared.Tap.{Tap}
 use Rattle.ledger.specs.LimitLaws.{range-me, range-most}
 use Rattle.ledger.specs.Message.{Message, in_range, message_rules, message_fits}
 use Rattle.ledger.specs.Record.{Record, record_fits, knows, is_known}
-use Rattle.ledger.specs.RecordLaws.{obeys}
+use Rattle.ledger.proofs.RecordLaws.{obeys}
 use Rattle.wire.specs.Kinds.{Kind, head_kind, record_kind, record_in, stamp_at, stamp_body, tap_body, head_body, record_body}
-use Rattle.wire.specs.Laws.{Lawful, figures-read, lawful_record}
+use Rattle.wire.proofs.Laws.{Lawful, figures-read, lawful_record}
 use Rattle.wire.specs.Read.{line_of, readable, read_as}
 use Rattle.wire.specs.Said.{figures}
 use Rattle.wire.specs.Write.{writable}

@@ -6,7 +6,7 @@ use Rattle.std.proofs.Common.{arith, ap, lt-ltb, le-ltb, eq-eqb, ne_eqb}
 use Rattle.lists.specs.TestLaws.{either, bit, ◌∈◌, keep-none, keep-length}
 use Rattle.lists.specs.Order.{key_before, rising}
 use Rattle.lists.specs.Scan.{le_or_lt}
-use Rattle.lists.specs.Sorted.{head-before, tail-rising}
+use Rattle.lists.proofs.Sorted.{head-before, tail-rising}
 use Rattle.lists.specs.Tests.{keep}
 
 bits : (x o : ℕ) → bit (ltb x (o + 1)) ≡ bit (ltb x o) + bit (eqb x o)

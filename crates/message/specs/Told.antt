@@ -9,9 +9,9 @@ use Rattle.lists.specs.TestLaws.{and_l, and_r, is_true}
 use Rattle.stamp.specs.declared.Parts.{Parts}
 use Rattle.stamp.specs.Parts.{list_of}
 use Rattle.wire.specs.Kinds.{head_kind, head_long, record_long}
-use Rattle.wire.specs.Laws.{lawful-head}
+use Rattle.wire.proofs.Laws.{lawful-head}
 use Rattle.wire.specs.Read.{readable, read_as}
-use Rattle.wire.specs.ReadLaws.{answered, unanswered, told_line}
+use Rattle.wire.proofs.ReadLaws.{answered, unanswered, told_line}
 use Rattle.wire.specs.Said.{figures}
 use Rattle.wire.specs.declared.Said.{Said}
 use Rattle.wire.specs.declared.Said.TheVariants as said

@@ -7,7 +7,7 @@ use Rattle.std.specs.Prelude.{ℕ, ◌+◌, ◌-◌, ◌≡◌, Bool, true, List
 use Rattle.std.proofs.Common.{arith, sym, ap, ap₂, subst, ◌∙◌, append-nil, take_at, drop-drop}
 use Rattle.program.specs.Said.{said_in}
 use Rattle.program.specs.Turn.{Turned, turn_on, Turns}
-use Rattle.program.specs.TurnLaws.{turn-told}
+use Rattle.program.proofs.TurnLaws.{turn-told}
 use Rattle.program.specs.declared.Turn.{Turn}
 use Rattle.program.specs.declared.Turn.TheVariants.{Read, Say, Last, Stop}
 use Rattle.vectors.specs.Compare.{compared_at}

@@ -1,1 +1,4 @@
 pub mod Owes
+pub mod RunLaws
+pub mod SaidLaws
+pub mod TurnLaws

@@ -12,7 +12,7 @@ use Rattle.wire.specs.Read.{readable}
 use Rattle.wire.specs.Write.{Output, refuse}
 use Rattle.wire.specs.declared.Written.TheVariants.{Wrote, Refused}
 use Rattle.message.specs.Message.{message_bytes}
-use Rattle.meaning.specs.AnswerLaws.{ask-keeps}
+use Rattle.meaning.proofs.AnswerLaws.{ask-keeps}
 use Rattle.meaning.specs.Book.{fresh}
 use Rattle.meaning.specs.Reply.{Reply, refusal, is_taken, is_gossiped}
 use Rattle.meaning.specs.Step.{Outcome, stop_or, open_stops, ask, send}

@@ -13,7 +13,7 @@ use Rattle.lists.specs.Order.{same_key}
 use Rattle.lists.specs.Scan.{rest}
 use Rattle.limits.specs.Limits.{prompt_count, count_limit}
 use Rattle.tally.specs.Standing.{CountsFit, afresh, blank}
-use Rattle.tally.specs.StandingLaws.{afresh-at, standing-few}
+use Rattle.tally.proofs.StandingLaws.{afresh-at, standing-few}
 use Rattle.tally.specs.Tap.{tap_of}
 use Rattle.tally.specs.declared.Standing.{Standing}
 use Rattle.prompts.specs.Region.{noted_at}

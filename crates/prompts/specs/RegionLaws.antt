@@ -4,14 +4,14 @@ use Rattle.std.specs.Prelude.{ℕ, zero, suc, ◌+◌, ◌*◌, ◌<◌, ◌≡�
 use Rattle.std.proofs.Common.{add-zero, arith, sym, ap, ◌∙◌, length-set, get_or-take, get_or-drop}
 use Rattle.std.proofs.lemmas.List.{length-map}
 use Rattle.std.proofs.Math.ListN.{get_or-map}
-use Rattle.lists.specs.ElementLaws.{at}
+use Rattle.lists.proofs.ElementLaws.{at}
 use Rattle.lists.specs.Order.{same_key}
 use Rattle.lists.specs.RowLaws.{length-rows, rows_at}
 use Rattle.lists.specs.Rows.{rows, flat}
 use Rattle.lists.specs.Tests.{numbers}
 use Rattle.limits.specs.Limits.{prompt_count}
 use Rattle.tally.specs.Standing.{blank, counts, same_counts, standing, standing_of, of_prompt, how_many, afresh, noted}
-use Rattle.tally.specs.StandingLaws.{afresh-more, afresh-length}
+use Rattle.tally.proofs.StandingLaws.{afresh-more, afresh-length}
 use Rattle.tally.specs.Tap.{tap_of}
 use Rattle.tally.specs.declared.Standing.{Standing}
 use Rattle.tally.specs.declared.Tap.{Tap}

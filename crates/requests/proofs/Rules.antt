@@ -11,7 +11,7 @@ use Rattle.stamp.specs.Parts.{list_of, parts_at}
 use Rattle.stamp.specs.Stamp.{part}
 use Rattle.tally.specs.declared.Tap.{Tap}
 use Rattle.tally.specs.Body.{body_fits}
-use Rattle.tally.specs.BodyLaws.{tap-body}
+use Rattle.tally.proofs.BodyLaws.{tap-body}
 use Rattle.tally.specs.Tap.{tap_fits, word_of}
 use Rattle.ledger.specs.Record.{label_rules, record_fits, is_known, knows}
 use Rattle.wire.specs.declared.Said.TheVariants as said

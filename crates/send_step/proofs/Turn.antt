@@ -19,7 +19,7 @@ use Rattle.ledger.specs.Message.{message_fits}
 use Rattle.ledger.specs.Record.{Record}
 use Rattle.book_log.specs.Region.{row_long, record_at, body_place}
 use Rattle.wire.specs.Kinds.{Kind, size_of, head_kind, record_kind, head_long, record_long}
-use Rattle.wire.specs.Returns.{meets}
+use Rattle.wire.proofs.Returns.{meets}
 use Rattle.wire.specs.Said.{figures}
 use Rattle.wire.specs.Write.{Meets, writable, written, write_as}
 use Rattle.wire.specs.declared.Said.TheVariants as said
@@ -27,7 +27,7 @@ use Rattle.wire.specs.declared.Written.{Written}
 use Rattle.wire.specs.declared.Written.TheVariants.{Wrote, Refused}
 use Rattle.message.specs.LineLaws.{head-writable}
 use Rattle.message.specs.Message.{head_of, line_for, message_bytes}
-use Rattle.message.specs.MessageLaws.{records-writable, length-bytes-of}
+use Rattle.message.proofs.MessageLaws.{records-writable, length-bytes-of}
 use Rattle.meaning.specs.Book.{known}
 use Rattle.meaning.specs.BookLaws.{send-fits}
 use Rattle.meaning.specs.Step.{send}

@@ -16,10 +16,10 @@ use Rattle.tally.specs.Body.{body_fits}
 use Rattle.ledger.specs.Message.{Message, message_fits}
 use Rattle.ledger.specs.Record.{Record}
 use Rattle.wire.specs.Kinds.{head_kind, record_kind, head_long, record_long}
-use Rattle.wire.specs.Laws.{length-written}
+use Rattle.wire.proofs.Laws.{length-written}
 use Rattle.wire.specs.Write.{written}
 use Rattle.message.specs.Message.{head_of, line_for, message_bytes}
-use Rattle.message.specs.MessageLaws.{head-long, records-writable, length-bytes-of}
+use Rattle.message.proofs.MessageLaws.{head-long, records-writable, length-bytes-of}
 use Rattle.send_step.specs.Parts.{record_bytes, start_at, with_head, with_records}
 
 module _ (m : Message) (h : T (message_fits body_fits m)) where

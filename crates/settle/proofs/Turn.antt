@@ -12,7 +12,7 @@ use Rattle.lists.specs.Order.{insert}
 use Rattle.limits.specs.Limits.{parts}
 use Rattle.stamp.specs.Laws.{length-merge, length-replace}
 use Rattle.stamp.specs.Stamp.{Stamp, merge}
-use Rattle.tally.specs.BodyLaws.{taps_tap}
+use Rattle.tally.proofs.BodyLaws.{taps_tap}
 use Rattle.tally.specs.Standing.{among, count}
 use Rattle.tally.specs.Tap.{fields, tap_of}
 use Rattle.tally.specs.declared.Tap.{Tap}

@@ -7,13 +7,13 @@ use Rattle.limits.specs.Limits.{book_room}
 use Rattle.stamp.specs.Stamp.{Stamp, part}
 use Rattle.tally.specs.Standing.{count_all}
 use Rattle.ledger.specs.Log.{gathered}
-use Rattle.ledger.specs.LogLaws.{put-log, same_place}
+use Rattle.ledger.proofs.LogLaws.{put-log, same_place}
 use Rattle.ledger.specs.Record.{Record}
 use Rattle.log_edit.specs.Merge.{Fresh}
 use Rattle.meaning.specs.Book.{Book, known, ready, row}
 use Rattle.meaning.specs.BookLaws.{Sound, counted-few, counts_small}
-use Rattle.meaning.specs.SettleLaws.{gathered-obeys, counted-after, settle-sound}
-use Rattle.meaning.specs.SettleLaws as meaning
+use Rattle.meaning.proofs.SettleLaws.{gathered-obeys, counted-after, settle-sound}
+use Rattle.meaning.proofs.SettleLaws as meaning
 use Rattle.meaning.specs.Step.{settle, now_ready, now_applied, taps_of}
 use Rattle.lent.specs.SoundWords.{whole_each, sound-shape}
 use Rattle.lent.specs.With.{with_table, with_log}

@@ -6,7 +6,7 @@ use Rattle.std.proofs.Math.Bool.{true, false, not, cond}
 use mathlib.Core.List.{List, [], ◌∷◌, flat_map}
 use Rattle.stamp.specs.Stamp.{Stamp}
 use Rattle.tally.specs.Body.{taps_in}
-use Rattle.tally.specs.CountingLaws.{counting_append}
+use Rattle.tally.proofs.CountingLaws.{counting_append}
 use Rattle.tally.specs.declared.Standing.{Standing}
 use Rattle.tally.specs.declared.Tap.{Tap}
 use Rattle.ledger.specs.Log.{newly_applied, gathered, merge_all, remaining}

@@ -9,28 +9,28 @@ use Rattle.std.proofs.Math.Bool.{not}
 use mathlib.Core.List.{List, [], ◌∷◌, ◌++◌, flat_map}
 use Rattle.std.proofs.Math.ListN.{get_or, drop}
 use Rattle.lists.specs.TestLaws.{◌∈◌, get_or_in, here, there, either, bit, keep-length, keep_le}
-use Rattle.lists.specs.ElementLaws.{get_or-all}
+use Rattle.lists.proofs.ElementLaws.{get_or-all}
 use Rattle.lists.specs.Order.{key_before, rising, insert, insert_all}
 use Rattle.limits.specs.LimitLaws.{log_small}
 use Rattle.limits.specs.Limits.{parts, most, book_room, log_room, count_limit}
 use Rattle.stamp.specs.Laws.{length-merge, length-replace}
 use Rattle.stamp.specs.Stamp.{Stamp}
 use Rattle.tally.specs.Body.{taps_in, body_fits}
-use Rattle.tally.specs.BodyLaws.{taps-body, taps_tap}
-use Rattle.tally.specs.CountingLaws.{counting-taps, counting-long, counting-few}
+use Rattle.tally.proofs.BodyLaws.{taps-body, taps_tap}
+use Rattle.tally.proofs.CountingLaws.{counting-taps, counting-long, counting-few}
 use Rattle.tally.specs.Standing.{CountsFit, blank, counting, count_all}
-use Rattle.tally.specs.StandingLaws.{count-put}
+use Rattle.tally.proofs.StandingLaws.{count-put}
 use Rattle.tally.specs.Tap.{FitsBits, fields, tap_of}
-use Rattle.tally.specs.WordLaws.{fits_bits}
+use Rattle.tally.proofs.WordLaws.{fits_bits}
 use Rattle.tally.specs.declared.Standing.{Standing}
 use Rattle.tally.specs.declared.Tap.{Tap}
 use Rattle.ledger.specs.Log.{newly_applied, merge_all}
-use Rattle.ledger.specs.LogLaws.{newly_mem}
+use Rattle.ledger.proofs.LogLaws.{newly_mem}
 use Rattle.ledger.specs.Record.{Record, stamp_of, record_fits, is_applied}
-use Rattle.ledger.specs.RecordLaws.{Obeys, obeys}
+use Rattle.ledger.proofs.RecordLaws.{Obeys, obeys}
 use Rattle.taps.specs.RegionLaws.{AllFit}
 use Rattle.meaning.specs.Book.{Book, standing_at}
-use Rattle.meaning.specs.SettleLaws.{taps_mem, taps-few}
+use Rattle.meaning.proofs.SettleLaws.{taps_mem, taps-few}
 use Rattle.meaning.specs.Step.{taps_of}
 use Rattle.lent.specs.Rows.{no_record}
 use Rattle.lent.specs.Shape.{Shape, value-fits, counted-fits, prompts_fit}

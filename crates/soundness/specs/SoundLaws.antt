@@ -11,21 +11,23 @@ use borrow.Author.Tests.{eq-eqb, ne_eqb, le-leb}
 use Rattle.std.proofs.Math.Dec.{T, le→leb}
 use Rattle.std.proofs.Math.ListN.{length}
 use Rattle.lists.specs.TestLaws.{◌∈◌, get_or_in, and_l, and_r, both, given, all_from, ◌also◌, done, every-from, same_test}
-use Rattle.lists.specs.ElementLaws.{eq→eqb, every-same}
+use Rattle.lists.proofs.ElementLaws.{eq→eqb, every-same}
 use Rattle.lists.specs.RowLaws.{length-rows, rows_at}
 use Rattle.lists.specs.Tests.{all, every}
 use Rattle.limits.specs.Limits.{parts, most, log_room, book_room}
 use Rattle.stamp.specs.Stamp.{Stamp, total, at_most}
 use Rattle.tally.specs.Standing.{afresh, same_counts}
-use Rattle.tally.specs.StandingLaws.{counts_same, afresh-few}
+use Rattle.tally.proofs.StandingLaws.{counts_same, afresh-few}
 use Rattle.tally.specs.Body.{body_fits}
 use Rattle.tally.specs.declared.Standing.{Standing}
 use Rattle.ledger.specs.Log.{all_held}
 use Rattle.ledger.specs.Message.{in_range}
 use Rattle.ledger.specs.Record.{is_known, is_applied, may_go, record_fits, stamp_of}
 use Rattle.ledger.specs.LimitLaws.{range-me}
-use Rattle.book_log.specs.Held.{holds_all, all_held-climb}
-use Rattle.book_log.specs.Lowest.{lowest_from, goes_by, may_go_lowest}
+use Rattle.book_log.specs.Held.{holds_all}
+use Rattle.book_log.proofs.HeldLaws.{all_held-climb}
+use Rattle.book_log.specs.Lowest.{lowest_from, goes_by}
+use Rattle.book_log.proofs.LowestLaws.{may_go_lowest}
 use Rattle.book_log.specs.RegionLaws.{length-records}
 use Rattle.book_log.specs.RowSound.{row_sound, rows_sound_is, record_fits_is}
 use Rattle.meaning.specs.Book.{Book, known, ready, row, waiting, clauses, sound}

@@ -1,9 +1,3 @@
 pub mod Tap
 pub mod Body
 pub mod Standing
-pub mod Cases
-pub mod WordLaws
-pub mod TapLaws
-pub mod BodyLaws
-pub mod StandingLaws
-pub mod CountingLaws

@@ -14,7 +14,8 @@ use Rattle.log_edit.specs.Merge.{Fresh}
 use Rattle.meaning.specs.Book.{Book, known, ready}
 use Rattle.meaning.specs.BookLaws.{me_in}
 use Rattle.meaning.specs.Step.{new_record, own_rows, take_book}
-use Rattle.meaning.specs.StepLaws.{TakeDone, new-number, take-ready}
+use Rattle.meaning.specs.Done.{TakeDone}
+use Rattle.meaning.proofs.StepLaws.{new-number, take-ready}
 use Rattle.lent.specs.Held.{Held, held_is, book_is}
 use Rattle.lent.specs.Shape.{Shape}
 use Rattle.lent.specs.With.{with_table, with_log}

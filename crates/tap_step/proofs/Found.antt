@@ -7,12 +7,12 @@ use mathlib.Core.List.{List, [], ◌∷◌}
 use lib.Dec.{eqb, ltb, eqb→eq}
 use lib.ListN.{length, get_or}
 use Rattle.lists.specs.TestLaws.{same_test}
-use Rattle.lists.specs.ElementLaws.{eq→eqb}
+use Rattle.lists.proofs.ElementLaws.{eq→eqb}
 use Rattle.lists.specs.Tests.{exists}
-use Rattle.tally.specs.BodyLaws.{taps_tap}
+use Rattle.tally.proofs.BodyLaws.{taps_tap}
 use Rattle.tally.specs.Standing.{among}
 use Rattle.tally.specs.Tap.{same_tap, tap_of}
-use Rattle.tally.specs.WordLaws.{tap-equal}
+use Rattle.tally.proofs.WordLaws.{tap-equal}
 use Rattle.tally.specs.declared.Tap.{Tap}
 use Rattle.ledger.specs.Record.{Record, stamp_of}
 use Rattle.book_log.specs.First.{first_with, first_found}

@@ -10,9 +10,9 @@ use Rattle.lists.specs.Tests.{every}
 use Rattle.limits.specs.Limits.{parts, word}
 use Rattle.stamp.specs.Stamp.{Stamp, part}
 use Rattle.tally.specs.Body.{body_of, body_fits}
-use Rattle.tally.specs.BodyLaws.{word-body}
+use Rattle.tally.proofs.BodyLaws.{word-body}
 use Rattle.ledger.specs.LimitLaws.{range-parts}
-use Rattle.ledger.specs.RecordLaws.{obeys}
+use Rattle.ledger.proofs.RecordLaws.{obeys}
 use Rattle.meaning.specs.Book.{Book, known}
 use Rattle.meaning.specs.BookLaws.{Sound, me_in, known-fits}
 use Rattle.meaning.specs.Step.{new_record}

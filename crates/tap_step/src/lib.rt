@@ -13,7 +13,7 @@ ghost use Rattle.ledger.specs.Record.{stamp_of};
 ghost use Rattle.book_log.specs.Region.{row_long, stamp_long, record_at};
 ghost use Rattle.meaning.specs.Book.{known};
 ghost use Rattle.meaning.specs.Step.{new_record, take_book, tap_stops, tap_step};
-ghost use Rattle.meaning.specs.StepLaws.{TakeDone};
+ghost use Rattle.meaning.specs.Done.{TakeDone};
 ghost use Rattle.lent.specs.Held.{Held};
 ghost use Rattle.lent.specs.Words.{book_of, words_of, lawful};
 ghost use Rattle.lent.specs.Rows.{no_record};

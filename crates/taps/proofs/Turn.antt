@@ -12,8 +12,8 @@ use lib.Seq.{length-take-le, get_or-take, take-take, take-suc, take-set-le, drop
 use borrow.Author.Tests.{eq-eqb, ne_eqb, lt-ltb, le-ltb}
 use Rattle.lists.specs.FirstScan.{first_rest, first-end}
 use Rattle.lists.specs.TestLaws.{either, clash, both, or_l, or_r}
-use Rattle.lists.specs.ElementLaws.{eq→eqb}
-use Rattle.lists.specs.Neighbours.{rising-next, rising-front, insert-front, insert-last}
+use Rattle.lists.proofs.ElementLaws.{eq→eqb}
+use Rattle.lists.proofs.Neighbours.{rising-next, rising-front, insert-front, insert-last}
 use Rattle.lists.specs.Order.{key_before, rising, insert}
 use Rattle.lists.specs.Scan.{rest, le_or_lt}
 use Rattle.lists.specs.Tests.{every, exists}

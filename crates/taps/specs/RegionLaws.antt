@@ -5,16 +5,16 @@ use Rattle.std.proofs.Common.{arith, sym, ap, ap₂, subst, ◌∙◌, length-ap
 use Rattle.std.proofs.lemmas.List.{length-map, length-replicate}
 use Rattle.std.proofs.Math.Seq.{drop-append-add}
 use Rattle.lists.specs.TestLaws.{◌∈◌, here, there, clash}
-use Rattle.lists.specs.ElementLaws.{OneMore, at, later, insert-new}
-use Rattle.lists.specs.Neighbours.{map-rising}
+use Rattle.lists.proofs.ElementLaws.{OneMore, at, later, insert-new}
+use Rattle.lists.proofs.Neighbours.{map-rising}
 use Rattle.lists.specs.Order.{key_before, rising, insert}
-use Rattle.lists.specs.Sorted.{map-insert}
+use Rattle.lists.proofs.Sorted.{map-insert}
 use Rattle.lists.specs.Tests.{every, exists}
 use Rattle.lists.specs.Zeros.{all-zeros}
 use Rattle.tally.specs.Standing.{among}
 use Rattle.tally.specs.Tap.{FitsBits, fields, same_tap, word_of, tap_of}
-use Rattle.tally.specs.TapLaws.{mem-among}
-use Rattle.tally.specs.WordLaws.{word_tap, tap-word, tap-equal, tap-order, fields-same}
+use Rattle.tally.proofs.TapLaws.{mem-among}
+use Rattle.tally.proofs.WordLaws.{word_tap, tap-word, tap-equal, tap-order, fields-same}
 use Rattle.tally.specs.declared.Tap.{Tap}
 use Rattle.taps.specs.Region.{taps_at, tap_words, inserted_at}
 

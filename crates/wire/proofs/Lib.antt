@@ -1,1 +1,5 @@
 pub mod Shape
+pub mod Edges
+pub mod Laws
+pub mod ReadLaws
+pub mod Returns

@@ -8,7 +8,7 @@ use borrow.Author.Tests.{eq-eqb, ne_eqb}
 use lib.Dec.{eqb, eqb→eq}
 use lib.ListN.{length, get_or}
 use Rattle.lists.specs.TestLaws.{same_test}
-use Rattle.lists.specs.ElementLaws.{eq→eqb}
+use Rattle.lists.proofs.ElementLaws.{eq→eqb}
 use Rattle.wire.specs.Kinds.{body_by, is_long, shaped}
 use Rattle.wire.specs.declared.BodyLength.{BodyLength}
 use Rattle.wire.specs.declared.BodyLength.TheVariants.{Long, Bad}

@@ -4,8 +4,4 @@ pub mod Kinds
 pub mod Read
 pub mod Head
 pub mod Write
-pub mod Returns
-pub mod Laws
-pub mod ReadLaws
 pub mod Case
-pub mod Edges

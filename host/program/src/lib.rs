@@ -5,7 +5,7 @@ use std::path::{Path, PathBuf};
 use std::process::{Child, ChildStdin, ChildStdout, Command, Stdio};
 use std::{env, fs, thread};
 
-/// Says which program to run, if not the one that `rt check screen` builds.
+/// Says which program to run, if not the one that `tools/library.sh` builds.
 const PROGRAM: &str = "SCREEN_PROGRAM";
 
 /// A running `screen`.
@@ -21,7 +21,7 @@ impl Screen {
         let program = program();
         let mut child =
             Command::new(&program).stdin(Stdio::piped()).stdout(Stdio::piped()).spawn().unwrap_or_else(
-                |error| panic!("{}: {error}; run `rt check screen`, or set {PROGRAM}", program.display()),
+                |error| panic!("{}: {error}; run `tools/library.sh`, or set {PROGRAM}", program.display()),
             );
         let input = child.stdin.take().expect("its standard input is a pipe");
         let output = child.stdout.take().expect("its standard output is a pipe");

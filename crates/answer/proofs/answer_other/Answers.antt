@@ -5,7 +5,7 @@ use native.Mathlib.Omega.{arith}
 use lib.ListN.{length}
 use Rattle.lists.specs.TestLaws.{is_true}
 use Rattle.wire.specs.Read.{readable}
-use Rattle.wire.specs.ReadLaws.{told, untold}
+use Rattle.wire.proofs.ReadLaws.{told, untold}
 use Rattle.wire.specs.Said.{figures}
 use Rattle.wire.specs.declared.Said.{Said}
 use Rattle.message.specs.Tags.{not-this}

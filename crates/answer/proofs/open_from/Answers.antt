@@ -2,7 +2,7 @@
 use mathlib.Core.Path.{sym, ◌∙◌}
 use Rattle.lent.specs.Words.{book_long}
 use Rattle.wire.specs.Kinds.{open_kind}
-use Rattle.wire.specs.ReadLaws.{untold}
+use Rattle.wire.proofs.ReadLaws.{untold}
 use Rattle.message.specs.Tags.{not-this}
 use Rattle.answer.proofs.Owes.{opens-long, opens_unread, opens-read}
 use borrow.Enum.Refused.{opened}

@@ -7,7 +7,7 @@ use lib.ListN.{get_or}
 use borrow.Author.Tests.{not-true, not-false}
 use Rattle.wire.specs.Kinds.{question_kind, stamp_at}
 use Rattle.wire.specs.Read.{line_of, readable, read_as}
-use Rattle.wire.specs.ReadLaws.{untold}
+use Rattle.wire.proofs.ReadLaws.{untold}
 use Rattle.message.specs.Tags.{not-this}
 use Rattle.meaning.specs.Step.{ask}
 use Rattle.lent.specs.SoundWords.{lawful-held}

@@ -7,7 +7,7 @@ use borrow.Author.Tests.{not-true, not-false}
 use Rattle.lists.specs.Tests.{first_of}
 use Rattle.wire.specs.Kinds.{tap_kind, tap_at, stamp_at}
 use Rattle.wire.specs.Read.{line_of, readable, read_as}
-use Rattle.wire.specs.ReadLaws.{untold}
+use Rattle.wire.proofs.ReadLaws.{untold}
 use Rattle.message.specs.Tags.{not-this}
 use Rattle.meaning.specs.Step.{tap_stops}
 use Rattle.lent.specs.SoundWords.{lawful-held}

@@ -4,7 +4,7 @@ use native.Mathlib.Omega.{arith}
 use mathlib.Core.Path.{◌≡◌, refl, sym, ap, ◌∙◌}
 use lib.Dec.{eqb, eqb→eq, leb, le→leb, leb→le}
 use lib.ListN.{get_or, get_or-eq_default}
-use Rattle.lists.specs.ElementLaws.{eq→eqb}
+use Rattle.lists.proofs.ElementLaws.{eq→eqb}
 use Rattle.lists.specs.TestLaws.{same_test}
 use Rattle.ledger.specs.Record.{is_known, knows}
 use Rattle.book_log.proofs.is_known.Goals as goal

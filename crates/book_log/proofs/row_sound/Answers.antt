@@ -4,7 +4,7 @@ use mathlib.Core.Bool.{true, false}
 use lib.Dec.{T}
 use borrow.Author.Tests.{not-true, not-false}
 use Rattle.ledger.specs.Record.{is_known, record_fits}
-use Rattle.ledger.specs.RecordLaws.{obeys}
+use Rattle.ledger.proofs.RecordLaws.{obeys}
 use Rattle.book_log.specs.Region.{record_at}
 use Rattle.book_log.specs.Lowest.{goes_by}
 use Rattle.book_log.specs.RowSound.{row_sound, stamp-covered}

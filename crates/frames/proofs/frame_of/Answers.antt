@@ -7,11 +7,11 @@ use Prim.Native.Nat.{◌≤◌}
 use lib.ListN.{get_or}
 use Rattle.stamp.specs.Stamp.{total}
 use Rattle.wire.specs.Kinds.{record_body}
-use Rattle.wire.specs.Returns.{failed, passed}
+use Rattle.wire.proofs.Returns.{failed, passed}
 use Rattle.wire.specs.declared.BodyLength.{BodyLength}
 use Rattle.wire.specs.declared.BodyLength.TheVariants.{Long, Bad}
 use Rattle.frames.specs.Frame.{expected, body_frame}
-use Rattle.wire.specs.Laws.{body-few}
+use Rattle.wire.proofs.Laws.{body-few}
 use Rattle.frames.specs.declared.Frame.TheVariants.{Stop}
 use Rattle.frames.proofs.Lines.{nothing, unexpected, gossips, others}
 use borrow.Author.Rules.{rules}

@@ -3,7 +3,8 @@ use mathlib.Core.Path.{◌≡◌, ap₂}
 use Rattle.meaning.specs.BookLaws.{me_in}
 use Rattle.meaning.specs.Reply.{gossiped}
 use Rattle.meaning.specs.Step.{hear_out, gossip_step}
-use Rattle.meaning.specs.StepLaws.{GossipDone, gossip-by-none}
+use Rattle.meaning.specs.Done.{GossipDone}
+use Rattle.meaning.proofs.StepLaws.{gossip-by-none}
 use Rattle.message.specs.Message.{message_of}
 use Rattle.lent.specs.SoundWords.{lawful-sound, lawful-held}
 use Rattle.lent.specs.Words.{book_of}

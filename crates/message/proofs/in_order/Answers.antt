@@ -3,7 +3,7 @@ use Prim.Native.Nat.{◌-◌}
 use native.Mathlib.Omega.{arith}
 use mathlib.Core.Path.{sym, ◌∙◌}
 use Rattle.stamp.specs.Parts.{list_of}
-use Rattle.wire.specs.Returns.{failed, passed}
+use Rattle.wire.proofs.Returns.{failed, passed}
 use Rattle.wire.specs.Kinds.{record_kind}
 use Rattle.message.specs.Tags.{not-this}
 use Rattle.message.specs.Message.{parts_of}

@@ -5,8 +5,8 @@ use mathlib.Core.Path.{sym, ◌∙◌}
 use Rattle.limits.specs.LimitLaws.{log-counts}
 use Rattle.limits.specs.Limits.{log_room}
 use Rattle.wire.specs.Kinds.{head_kind}
-use Rattle.wire.specs.ReadLaws.{untold}
-use Rattle.wire.specs.Returns.{failed, passed}
+use Rattle.wire.proofs.ReadLaws.{untold}
+use Rattle.wire.proofs.Returns.{failed, passed}
 use Rattle.message.specs.Tags.{not-this}
 use Rattle.message.proofs.Lines.{too_short, headless, wrong-long, disorder, whole, few}
 use borrow.Enum.Refused.{opened}

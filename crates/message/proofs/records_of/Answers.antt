@@ -11,8 +11,8 @@ use Rattle.message.specs.Tags.{not-this}
 use Rattle.wire.specs.Head.{count_in}
 use Rattle.message.specs.Message.{parts_of, record_parts, well_formed}
 use Rattle.message.specs.Find.{place_for}
-use Rattle.message.specs.FindLaws.{end-part, none-refused, start-refused, place-next, found, none_found}
-use Rattle.message.specs.FindLaws.{start-some, start_none}
+use Rattle.message.proofs.FindLaws.{end-part, none-refused, start-refused, place-next, found, none_found}
+use Rattle.message.proofs.FindLaws.{start-some, start_none}
 use Rattle.message.specs.Told.{gossip-told, gossip-untold, head-count, well-long}
 use borrow.Enum.Refused.{opened}
 use Rattle.message.proofs.records_of.Goals as goal

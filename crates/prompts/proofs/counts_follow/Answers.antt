@@ -3,7 +3,7 @@ use mathlib.Core.Path.{sym, ap, ap₂, ◌∙◌}
 use Rattle.lists.specs.Order.{same_key}
 use Rattle.limits.specs.Limits.{prompt_count}
 use Rattle.tally.specs.Standing.{afresh}
-use Rattle.tally.specs.StandingLaws.{afresh-length}
+use Rattle.tally.proofs.StandingLaws.{afresh-length}
 use Rattle.taps.specs.Region.{taps_at}
 use Rattle.prompts.specs.Region.{standings_at, standing_words}
 use Rattle.prompts.specs.RegionLaws.{words_standings, length_standings, standings-fresh, same-counts}

@@ -6,7 +6,7 @@ use mathlib.Core.Path.{◌≡◌, sym, ap, subst, ◌∙◌}
 use mathlib.Core.List.{List, map}
 use lib.ListN.{length, take, drop, get_or}
 use Rattle.tally.specs.Standing.{CountsFit, blank}
-use Rattle.tally.specs.StandingLaws.{afresh-length}
+use Rattle.tally.proofs.StandingLaws.{afresh-length}
 use Rattle.tally.specs.Tap.{tap_of}
 use Rattle.tally.specs.declared.Standing.{Standing}
 use Rattle.taps.specs.Region.{taps_at}

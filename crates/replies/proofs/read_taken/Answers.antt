@@ -7,7 +7,7 @@ use Rattle.stamp.specs.Stamp.{total}
 use Rattle.limits.specs.KindNumbers.{taken_number}
 use Rattle.wire.specs.Kinds.{shaped, body_by, taken_body, taken_kind}
 use Rattle.wire.specs.Read.{line_of}
-use Rattle.wire.specs.Returns.{failed, passed, shaped-long, not-shaped, kept}
+use Rattle.wire.proofs.Returns.{failed, passed, shaped-long, not-shaped, kept}
 use Rattle.replies.proofs.read_taken.Goals as goal
 
 pub returns-then-not-is_kind : goal.returns-then-not-is_kind

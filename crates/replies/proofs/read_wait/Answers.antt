@@ -5,7 +5,7 @@ use native.Mathlib.Omega.{arith}
 use Rattle.limits.specs.KindNumbers.{wait_number}
 use Rattle.wire.specs.Kinds.{shaped, body_by, bits_width, wait_kind}
 use Rattle.wire.specs.Read.{line_of}
-use Rattle.wire.specs.Returns.{failed, passed, shaped-long, not-shaped, kept}
+use Rattle.wire.proofs.Returns.{failed, passed, shaped-long, not-shaped, kept}
 use Rattle.replies.proofs.read_wait.Goals as goal
 
 pub returns-then-not-is_kind : goal.returns-then-not-is_kind

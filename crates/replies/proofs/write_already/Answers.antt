@@ -1,6 +1,6 @@
 -- `replies::write_already` meets its contract. Assumes nothing.
 use mathlib.Core.Path.{refl}
-use Rattle.wire.specs.Returns.{put}
+use Rattle.wire.proofs.Returns.{put}
 use Rattle.wire.specs.Kinds.{already_kind}
 use Rattle.replies.proofs.write_already.Goals as goal
 

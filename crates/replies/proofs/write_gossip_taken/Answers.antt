@@ -1,6 +1,6 @@
 -- `replies::write_gossip_taken` meets its contract. Assumes nothing.
 use mathlib.Core.Path.{refl}
-use Rattle.wire.specs.Returns.{put}
+use Rattle.wire.proofs.Returns.{put}
 use Rattle.wire.specs.Kinds.{gossip_taken_kind}
 use Rattle.replies.proofs.write_gossip_taken.Goals as goal
 

@@ -1,6 +1,6 @@
 -- `replies::write_refusal` meets its contract. Assumes nothing.
 use mathlib.Core.Path.{refl}
-use Rattle.wire.specs.Returns.{failed, passed, broken, put}
+use Rattle.wire.proofs.Returns.{failed, passed, broken, put}
 use Rattle.wire.specs.Kinds.{refusal_kind}
 use Rattle.replies.proofs.write_refusal.Goals as goal
 

@@ -1,6 +1,6 @@
 -- `replies::write_taken` meets its contract. Assumes nothing.
 use mathlib.Core.Path.{refl}
-use Rattle.wire.specs.Returns.{put}
+use Rattle.wire.proofs.Returns.{put}
 use Rattle.wire.specs.Kinds.{taken_kind}
 use Rattle.replies.proofs.write_taken.Goals as goal
 

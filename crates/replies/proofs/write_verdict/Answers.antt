@@ -2,7 +2,7 @@
 use mathlib.Core.Path.{refl}
 use Rattle.lists.specs.Part.{patch}
 use Rattle.stamp.specs.Parts.{list_of}
-use Rattle.wire.specs.Returns.{failed, passed, broken, put}
+use Rattle.wire.proofs.Returns.{failed, passed, broken, put}
 use Rattle.wire.specs.Kinds.{verdict_kind}
 use Rattle.replies.proofs.write_verdict.Goals as goal
 

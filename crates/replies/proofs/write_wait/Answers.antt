@@ -1,6 +1,6 @@
 -- `replies::write_wait` meets its contract. Assumes nothing.
 use mathlib.Core.Path.{refl}
-use Rattle.wire.specs.Returns.{put}
+use Rattle.wire.proofs.Returns.{put}
 use Rattle.wire.specs.Kinds.{wait_kind}
 use Rattle.replies.proofs.write_wait.Goals as goal
 

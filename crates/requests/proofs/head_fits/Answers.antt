@@ -1,7 +1,7 @@
 -- `requests::head_fits` meets its contract. Assumes nothing.
 use Rattle.stamp.specs.Parts.{list_of, parts_at}
 use Rattle.wire.specs.Kinds.{head_kind}
-use Rattle.wire.specs.Returns.{failed, passed}
+use Rattle.wire.proofs.Returns.{failed, passed}
 use Rattle.requests.proofs.head_fits.Goals as goal
 
 pub returns-then-not-in_range : goal.returns-then-not-in_range

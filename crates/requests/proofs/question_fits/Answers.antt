@@ -1,7 +1,7 @@
 -- `requests::question_fits` meets its contract. Assumes nothing.
 use Rattle.stamp.specs.Parts.{list_of, parts_at}
 use Rattle.wire.specs.Kinds.{question_kind}
-use Rattle.wire.specs.Returns.{failed, passed}
+use Rattle.wire.proofs.Returns.{failed, passed}
 use Rattle.requests.proofs.question_fits.Goals as goal
 
 pub returns-then-not-prompt_fits : goal.returns-then-not-prompt_fits

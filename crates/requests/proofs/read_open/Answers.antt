@@ -4,7 +4,7 @@ use mathlib.Core.Bool.{true}
 use native.Mathlib.Omega.{arith}
 use Rattle.wire.specs.Kinds.{shaped, body_by, open_kind}
 use Rattle.wire.specs.Read.{line_of}
-use Rattle.wire.specs.Returns.{failed, passed, shaped-long, not-shaped, kept}
+use Rattle.wire.proofs.Returns.{failed, passed, shaped-long, not-shaped, kept}
 use Rattle.requests.proofs.read_open.Goals as goal
 
 pub returns-then-not-is_kind : goal.returns-then-not-is_kind

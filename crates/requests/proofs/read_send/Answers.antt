@@ -2,7 +2,7 @@
 use mathlib.Core.Path.{refl}
 use Rattle.wire.specs.Kinds.{send_kind}
 use Rattle.wire.specs.Read.{line_of}
-use Rattle.wire.specs.Returns.{failed, passed, not-shaped, kept}
+use Rattle.wire.proofs.Returns.{failed, passed, not-shaped, kept}
 use Rattle.requests.proofs.read_send.Goals as goal
 
 pub returns-then-not-is_kind : goal.returns-then-not-is_kind

@@ -7,7 +7,7 @@ use Rattle.stamp.specs.Stamp.{total}
 use Rattle.limits.specs.KindNumbers.{tap_number}
 use Rattle.wire.specs.Kinds.{shaped, body_by, tap_message_body, tap_kind}
 use Rattle.wire.specs.Read.{line_of}
-use Rattle.wire.specs.Returns.{failed, passed, shaped-long, not-shaped, not-kept, kept}
+use Rattle.wire.proofs.Returns.{failed, passed, shaped-long, not-shaped, not-kept, kept}
 use Rattle.requests.proofs.read_tap.Goals as goal
 
 pub returns-then-not-is_kind : goal.returns-then-not-is_kind

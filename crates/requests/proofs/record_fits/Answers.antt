@@ -1,7 +1,7 @@
 -- `requests::record_fits` meets its contract. Assumes nothing.
 use Rattle.stamp.specs.Parts.{list_of, parts_at}
 use Rattle.wire.specs.Kinds.{record_kind}
-use Rattle.wire.specs.Returns.{failed, passed}
+use Rattle.wire.proofs.Returns.{failed, passed}
 use Rattle.requests.proofs.Rules.{rules-left}
 use borrow.Author.Rules.{rules}
 use Rattle.requests.proofs.record_fits.Goals as goal

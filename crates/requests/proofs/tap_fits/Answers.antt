@@ -1,7 +1,7 @@
 -- `requests::tap_fits` meets its contract. Assumes nothing.
 use Rattle.stamp.specs.Parts.{list_of, parts_at}
 use Rattle.wire.specs.Kinds.{tap_kind}
-use Rattle.wire.specs.Returns.{failed, passed}
+use Rattle.wire.proofs.Returns.{failed, passed}
 use Rattle.requests.proofs.tap_fits.Goals as goal
 
 pub returns-then-not-fits : goal.returns-then-not-fits

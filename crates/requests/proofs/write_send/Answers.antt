@@ -1,6 +1,6 @@
 -- `requests::write_send` meets its contract. Assumes nothing.
 use mathlib.Core.Path.{refl}
-use Rattle.wire.specs.Returns.{put}
+use Rattle.wire.proofs.Returns.{put}
 use Rattle.wire.specs.Kinds.{send_kind}
 use Rattle.requests.proofs.write_send.Goals as goal
 

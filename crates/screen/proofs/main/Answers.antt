@@ -8,7 +8,7 @@ use lib.Seq.{length-take-le}
 use Rattle.limits.specs.Limits.{log_room}
 use Rattle.wire.specs.Kinds.{longest}
 use Rattle.lent.specs.Words.{book_long}
-use Rattle.program.specs.TurnLaws.{read-within, say-within, last_within}
+use Rattle.program.proofs.TurnLaws.{read-within, say-within, last_within}
 use borrow.Author.Rules.{rules}
 use Rattle.screen.proofs.main.Goals as goal
 

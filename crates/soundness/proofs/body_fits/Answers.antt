@@ -1,6 +1,6 @@
 -- `soundness::body_fits` meets its contract: a body says one tap. Assumes nothing.
 use mathlib.Core.Path.{sym, ap, ◌∙◌}
-use Rattle.tally.specs.BodyLaws.{fits_tap}
+use Rattle.tally.proofs.BodyLaws.{fits_tap}
 use Rattle.tally.specs.Tap.{tap_fits}
 use Rattle.soundness.proofs.body_fits.Goals as goal
 

@@ -2,7 +2,7 @@
 use mathlib.Core.Path.{sym, ◌∙◌}
 use mathlib.Core.Bool.{and-true}
 use borrow.Author.Tests.{not-true, not-false}
-use Rattle.tally.specs.BodyLaws.{taps_tap}
+use Rattle.tally.proofs.BodyLaws.{taps_tap}
 use Rattle.meaning.specs.Book.{counted_in}
 use Rattle.soundness.proofs.row_counted.Goals as goal
 

@@ -2,7 +2,7 @@
 use native.Mathlib.Omega.{arith}
 use mathlib.Core.Path.{sym}
 use Rattle.limits.specs.Limits.{accept, decline}
-use Rattle.tally.specs.StandingLaws.{noted-lower, noted_higher, noted-equal}
+use Rattle.tally.proofs.StandingLaws.{noted-lower, noted_higher, noted-equal}
 use Rattle.tally.proofs.noted.Goals as goal
 
 pub returns-then-t-s : goal.returns-then-t-s

@@ -8,7 +8,7 @@ use Rattle.tally.specs.Body.{body_of}
 use Rattle.ledger.specs.Record.{Record, stamp_of}
 use Rattle.meaning.specs.BookLaws.{me_in, known-fits}
 use Rattle.meaning.specs.Step.{new_record}
-use Rattle.meaning.specs.StepLaws.{new-origin}
+use Rattle.meaning.proofs.StepLaws.{new-origin}
 use Rattle.lent.specs.Words.{book_of}
 use borrow.Author.Rules.{rules}
 use Rattle.tap_step.proofs.Entered.{raised-held, raised-fresh, raised-room, put-held, put-me, put-ready}

@@ -13,7 +13,7 @@ use Rattle.stamp.specs.Parts.{list_of}
 use Rattle.stamp.specs.Stamp.{Stamp, part, total}
 use Rattle.tally.specs.Standing.{among}
 use Rattle.tally.specs.Tap.{tap_of}
-use Rattle.tally.specs.WordLaws.{fits_bits, tap-word}
+use Rattle.tally.proofs.WordLaws.{fits_bits, tap-word}
 use Rattle.tally.specs.declared.Tap.{Tap}
 use Rattle.ledger.specs.Record.{stamp_of}
 use Rattle.book_log.specs.First.{first_with}

@@ -3,12 +3,13 @@ use mathlib.Core.Path.{◌≡◌, ap, subst, sym, ◌∙◌}
 use lib.Dec.{T}
 use Rattle.stamp.specs.Parts.{list_of}
 use Rattle.tally.specs.Body.{Body, says, body_of, body_fits}
-use Rattle.tally.specs.BodyLaws.{body-word, says-word, tap-body}
-use Rattle.tally.specs.WordLaws.{fits_bits}
+use Rattle.tally.proofs.BodyLaws.{body-word, says-word, tap-body}
+use Rattle.tally.proofs.WordLaws.{fits_bits}
 use Rattle.ledger.specs.Record.{stamp_of}
 use Rattle.meaning.specs.Reply.{taken}
 use Rattle.meaning.specs.Step.{new_record, take_book, take_out, tap_step}
-use Rattle.meaning.specs.StepLaws.{TakeDone, tap-by-none}
+use Rattle.meaning.specs.Done.{TakeDone}
+use Rattle.meaning.proofs.StepLaws.{tap-by-none}
 use Rattle.lent.specs.SoundWords.{lawful-held}
 use Rattle.lent.specs.Words.{book_of, words_of}
 use Rattle.promise.specs.LentLaws.{owes}

@@ -6,7 +6,7 @@ use borrow.Author.Tests.{not-true, not-false, lt-ltb, le-ltb}
 use lib.Dec.{T}
 use Rattle.numbers.specs.Fields.{fields_fit}
 use Rattle.wire.specs.Write.{put_line}
-use Rattle.wire.specs.Returns.{fit_length, meets}
+use Rattle.wire.proofs.Returns.{fit_length, meets}
 use Rattle.wire.specs.declared.Written.TheVariants.{Wrote, Refused}
 use Rattle.wire.proofs.put_line.Goals as goal
 

@@ -4,7 +4,7 @@ use native.Mathlib.Omega.{arith}
 use mathlib.Core.Path.{sym, ap, ◌∙◌}
 use lib.ListN.{length, drop, length-drop}
 use borrow.Author.Rules.{rules}
-use Rattle.program.specs.TurnLaws.{say-within, last_within}
+use Rattle.program.proofs.TurnLaws.{say-within, last_within}
 use Rattle.vectors.specs.CompareLaws.{to_end, compared-within}
 use Rattle.practice.specs.PlayLaws.{never-reads, say-turn, last_turn_lem, stop-turn}
 use Rattle.practice.proofs.play.follow.Goals as goal

@@ -3,7 +3,7 @@
 use Prim.Native.Nat.{◌≤◌, ◌<◌, ℕ, suc, ◌+◌, max}
 use Rattle.std.proofs.Common.{arith, ◌∙◌, subst, sym, nltb→le, eqb→eq}
 use Rattle.std.proofs.Math.Path.{ap, refl}
-use Rattle.std.specs.Prelude.{◌≡◌, ◌⊎◌, ◌≢◌, not, ◌&&◌, Bool, eqb, length, set, get_or}
+use Rattle.std.specs.Prelude.{◌≡◌, ◌⊎◌, not, ◌&&◌, Bool, eqb, length, set, get_or}
 use Rattle.std.proofs.Math.Logic.{inl, inr}
 use mathlib.Core.List.Memᴰ
 use mathlib.Core.List.{◌∷◌, []}
@@ -13,47 +13,32 @@ use Rattle.std.proofs.Math.ListN.{length-set}
 use Rattle.std.proofs.Math.Seq.{get_or-set_same}
 use Rattle.lists.specs.TestLaws.{here, not-not, and_l, and_r, passed, first_of-none, either, all_from, ◌also◌, done, ◌∈◌}
 use Rattle.lists.specs.TestLaws.{none_in, tell, clash, not_and, first_of-some}
-use Rattle.lists.specs.ElementLaws.{first_passes, set_either, every_set, nor_l, nor-r}
+use Rattle.lists.proofs.ElementLaws.{first_passes, set_either, every_set, nor_l, nor-r}
 use Rattle.lists.specs.Order.{rising}
-use Rattle.lists.specs.Tests.{exists, every, first_of}
+use Rattle.lists.specs.Tests.{every, first_of}
 use Rattle.limits.specs.Limits.{word, book_room, log_room}
 use Rattle.stamp.specs.Laws.{Fits, Covers, part_either, fits_test, fits-replace, part-total, total-next, part_replaced}
 use Rattle.stamp.specs.Laws.{at_most-parts, part-merge, fits-merge}
 use Rattle.stamp.specs.Stamp.{Stamp, stamp_fits, part, total, replace, merge, at_most}
 use Rattle.tally.specs.Body.{Body, says, said_fits, taps_said, taps_in, body_fits}
-use Rattle.tally.specs.BodyLaws.{word_fits, word-taps}
-use Rattle.tally.specs.Standing.{among}
+use Rattle.tally.proofs.BodyLaws.{word_fits, word-taps}
 use Rattle.tally.specs.Tap.{tap_fits}
 use Rattle.tally.specs.declared.Tap.{Tap}
 use Rattle.limits.specs.LimitLaws.{book-word}
 use Rattle.ledger.specs.LimitLaws.{range-parts, range-me}
 use Rattle.ledger.specs.Log.{gapless, unknowns}
-use Rattle.ledger.specs.LogLaws.{unknowns_mem, unknowns-rising, gapless-at, mem-unknowns}
+use Rattle.ledger.proofs.LogLaws.{unknowns_mem, unknowns-rising, gapless-at, mem-unknowns}
 use Rattle.ledger.specs.Message.{Message, message_fits, in_range}
-use Rattle.ledger.specs.MessageLaws.{Readable, readable}
+use Rattle.ledger.proofs.MessageLaws.{readable}
 use Rattle.ledger.specs.Record.{Record, place, record_fits, record_rules, has}
-use Rattle.ledger.specs.RecordLaws.{has-from, has-at}
-use Rattle.meaning.specs.Book.{Book, sound, known, holds, row, fresh}
+use Rattle.ledger.proofs.RecordLaws.{has-from, has-at}
+use Rattle.meaning.specs.Book.{Book, sound, known, row, fresh}
 use Rattle.meaning.specs.BookLaws.{Sound, sound-at, me-row, me_in, known-fits, row-me, at-sound, fresh-sound}
 use Rattle.meaning.specs.Reply.{Reply, is_taken}
-use Rattle.meaning.specs.SettleLaws.{Ready, settle-sound}
+use Rattle.meaning.proofs.SettleLaws.{Ready, settle-sound}
 use Rattle.meaning.specs.Step.{Outcome, stop_or, new_record, own_rows, take_book, take_out, tap_stops, tap_step, new_ones}
 use Rattle.meaning.specs.Step.{gossip_rows, hear_book, hear_out, gossip_stops, gossip_step, open_stops}
-
--- What is seen to before a tap is taken: it is not counted and not in the log ..
-pub record Unheld (b : Book) (t : Tap) : Type 0 where
-  pub not-counted : T (not (among b.counted t))
-  pub not-logged : T (not (exists (holds t) b.log))
-
--- .. and of any body
-pub record TakeDone (b : Book) (x : Body) (l : Stamp) : Type 0 where
-  pub sound-before : Sound b
-  pub said_fits_lem : T (said_fits x)
-  pub label-fits : T (stamp_fits b.screens l)
-  pub own : part l b.me ≤ part (known b) b.me
-  pub unheld : (t : Tap) → t ∈ taps_said x → Unheld b t
-  pub book-left : total (known b) < book_room
-  pub log-left : length b.log < log_room
+use Rattle.meaning.specs.Done.{Unheld, TakeDone, GossipDone}
 
 tap-passed : (b : Book) (t : Tap) (l : Stamp) → T (every (λ c. not c.0) (tap_stops b t l)) → TakeDone b (says t) l
 unfolding tap_stops
@@ -212,18 +197,6 @@ module _ (b : Book) (x : Body) (l : Stamp) (d : TakeDone b x l) where
           (λ e. has-from (new_record b x l ∷ []) k (suc q) (new_record b x l) here (new-origin b x l ∙ sym e.0)
           (omega (arith, new-number b x l, e.1, at k, ap (λ (j : ℕ). part (known b) j) e.0)))
           (λ e. absurd (omega (arith, e, at k)))
-
--- Gossip: what is seen to when nothing stops it
-pub record GossipDone (b : Book) (m : Message) : Type 0 where
-  pub sound-before : Sound b
-  pub rules : Readable body_fits m
-  pub house : m.screens ≡ b.screens
-  pub other : m.sender ≢ b.me
-  pub newer : Covers m.stamp (row b m.sender)
-  pub own : part m.stamp b.me ≤ part (known b) b.me
-  pub unspent : total (merge (known b) m.stamp) ≤ book_room
-  pub whole : T (gapless b.screens (known b) m)
-  pub room : length b.log + length (new_ones b m) ≤ log_room
 
 gossip-passed : (b : Book) (m : Message) → T (every (λ c. not c.0) (gossip_stops b m)) → GossipDone b m
 unfolding gossip_stops

@@ -3,16 +3,16 @@
 use Rattle.std.specs.Prelude.{ℕ, ◌<◌, ◌+◌, ◌≤◌, ◌≡◌, refl, ◌≢◌, ◌⊎◌, Bool, not, cond, List, [], ◌∷◌, ◌++◌, T, eqb, ltb, length, get_or, set}
 use Rattle.std.proofs.Common.{arith, ap, ◌∙◌, sym, subst, inl, inr, eqb→eq, ltb→lt, nltb→le, length-set}
 use Rattle.lists.specs.TestLaws.{◌∈◌, here, there, either, tell, is_true, is_false, clash}
-use Rattle.lists.specs.ElementLaws.{same_or_not, insert-new, bit-apart, set_mem, get_or-all}
+use Rattle.lists.proofs.ElementLaws.{same_or_not, insert-new, bit-apart, set_mem, get_or-all}
 use Rattle.lists.specs.Order.{rising, insert, insert_all}
-use Rattle.lists.specs.Sorted.{insert-same, put_all}
+use Rattle.lists.proofs.Sorted.{insert-same, put_all}
 use Rattle.limits.specs.Limits.{accept, decline, prompt_count}
 use Rattle.tally.specs.Standing.{among, afresh, blank, count, counting, count_all, noted, one_if}
-use Rattle.tally.specs.StandingLaws.{noted_higher, noted-equal, noted-lower, one_if-bit, accept-decline}
-use Rattle.tally.specs.StandingLaws.{afresh-more}
+use Rattle.tally.proofs.StandingLaws.{noted_higher, noted-equal, noted-lower, one_if-bit, accept-decline}
+use Rattle.tally.proofs.StandingLaws.{afresh-more}
 use Rattle.tally.specs.Tap.{fields}
-use Rattle.tally.specs.TapLaws.{among_mem, mem-among}
-use Rattle.tally.specs.WordLaws.{fields-same}
+use Rattle.tally.proofs.TapLaws.{among_mem, mem-among}
+use Rattle.tally.proofs.WordLaws.{fields-same}
 use Rattle.tally.specs.declared.Standing.{Standing}
 use Rattle.tally.specs.declared.Tap.{Tap}
 

@@ -13,7 +13,7 @@ use Rattle.tally.specs.Standing.{among, of_prompt, how_many, standing, standing_
 use Rattle.tally.specs.Standing.{contested, verdict_of, one_if, noted, count}
 use Rattle.tally.specs.Tap.{same_tap, tap_fits}
 use Rattle.tally.specs.declared.Tap.{Tap}
-use Rattle.ledger.specs.Cases.{at, places_of}
+use Rattle.ledger.proofs.Cases.{at, places_of}
 use Rattle.ledger.specs.Log.{unknowns, gathered, ready_stamp, newly_applied, remaining, waiting_in, all_held, gapless}
 use Rattle.ledger.specs.Message.{Message, in_range, message_fits}
 use Rattle.ledger.specs.Record.{Record, stamp_of, knows, is_known, is_applied, is_waiting, everywhere, may_go, has}

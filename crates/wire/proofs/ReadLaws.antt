@@ -8,7 +8,7 @@ use Rattle.wire.specs.declared.Said.{Said}
 use Rattle.wire.specs.declared.Said.TheVariants as said
 use Rattle.wire.specs.Said.{figures}
 use Rattle.wire.specs.Kinds.{Kind}
-use Rattle.wire.specs.Laws.{Lawful, figures-read}
+use Rattle.wire.proofs.Laws.{Lawful, figures-read}
 use Rattle.wire.specs.Read.{line_of, readable, read_as}
 
 pub answered : (c : Bool) (w v : Said) → v ≡ cond c w (said.Unreadable 1) → 0 < length (figures v) → T c × (v ≡ w)

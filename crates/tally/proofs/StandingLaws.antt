@@ -7,17 +7,17 @@ use Rattle.std.proofs.Math.Dec.{eqb, eqb_refl}
 use Rattle.std.proofs.lemmas.List.{length-map}
 use Rattle.lists.specs.TestLaws.{keep_le, keep-length, here, bit, is_true, is_false, tell, either, not-from, ◌∈◌, there}
 use Rattle.lists.specs.TestLaws.{keep_all, keep_share, and_r, and_l, both, none_in, mem-keep, keep_mem}
-use Rattle.lists.specs.ElementLaws.{OneMore, at, later, more-count, same_or_not, eq→eqb, more-out, more_in, numbers-at}
-use Rattle.lists.specs.ElementLaws.{numbers-length, bit-apart, keep_some, some-kept}
+use Rattle.lists.proofs.ElementLaws.{OneMore, at, later, more-count, same_or_not, eq→eqb, more-out, more_in, numbers-at}
+use Rattle.lists.proofs.ElementLaws.{numbers-length, bit-apart, keep_some, some-kept}
 use Rattle.lists.specs.Order.{same_key}
-use Rattle.lists.specs.Sorted.{put_all, Put, same_key→≡, same_key-refl}
+use Rattle.lists.proofs.Sorted.{put_all, Put, same_key→≡, same_key-refl}
 use Rattle.lists.specs.Tests.{keep, numbers}
 use Rattle.limits.specs.Limits.{accept, decline, prompt_count, showings}
 use Rattle.tally.specs.Standing.{highest, how_many, one_if, standing, noted, standing_of, of_prompt, afresh, blank}
 use Rattle.tally.specs.Standing.{count_all, counts, same_counts, contested, verdict_of, declined, unasked, accepted}
 use Rattle.tally.specs.Tap.{fields, tap_fits}
-use Rattle.tally.specs.TapLaws.{showing_in}
-use Rattle.tally.specs.WordLaws.{fields-same}
+use Rattle.tally.proofs.TapLaws.{showing_in}
+use Rattle.tally.proofs.WordLaws.{fields-same}
 use Rattle.tally.specs.declared.Standing.{Standing}
 use Rattle.tally.specs.declared.Tap.{Tap}
 

@@ -4,8 +4,8 @@ use Rattle.std.specs.Prelude.{ℕ, ◌/◌, ◌%◌, ◌<◌, ◌≡◌, T, leb,
 use Rattle.std.proofs.Common.{arith, sym, ap, ap₂, subst, ◌∙◌, leb→le, ltb→lt, lt→ltb, eqb→eq}
 use Rattle.lists.specs.Order.{key_before}
 use Rattle.lists.specs.TestLaws.{either, tell, and_r, given, same_test}
-use Rattle.lists.specs.ElementLaws.{eq→eqb}
-use Rattle.lists.specs.Sorted.{before_cons, before-total, same_key→≡, same_key-refl}
+use Rattle.lists.proofs.ElementLaws.{eq→eqb}
+use Rattle.lists.proofs.Sorted.{before_cons, before-total, same_key→≡, same_key-refl}
 use Rattle.limits.specs.Limits.{front_ends, serials, prompt_count, showings, accept, decline}
 use Rattle.tally.specs.declared.Tap.{Tap}
 use Rattle.tally.specs.Tap.{fields, same_tap, tap_rules, tap_fits, FitsBits, word_of, tap_of}

@@ -10,29 +10,29 @@ use Rattle.std.proofs.Math.Dec.{T}
 use Rattle.std.proofs.Math.ListN.{length}
 use Rattle.lists.specs.TestLaws.{◌∈◌, flat_map_mem, mem-flat_map, either, tell, every-get_or}
 use Rattle.lists.specs.Order.{rising}
-use Rattle.lists.specs.Sorted.{rising-one, Put}
+use Rattle.lists.proofs.Sorted.{rising-one, Put}
 use Rattle.lists.specs.Tests.{every}
 use Rattle.limits.specs.Limits.{word, log_room, book_room}
 use Rattle.stamp.specs.Laws.{Fits, Covers, fits, fits_test}
 use Rattle.stamp.specs.Stamp.{Stamp, stamp_fits, total, part}
 use Rattle.tally.specs.Body.{taps_in, body_fits}
-use Rattle.tally.specs.BodyLaws.{taps-one, taps-body}
-use Rattle.tally.specs.CountingLaws.{counting-taps, counting-afresh, counting-few}
+use Rattle.tally.proofs.BodyLaws.{taps-one, taps-body}
+use Rattle.tally.proofs.CountingLaws.{counting-taps, counting-afresh, counting-few}
 use Rattle.tally.specs.Standing.{afresh, count_all}
-use Rattle.tally.specs.StandingLaws.{count-put, count-has}
+use Rattle.tally.proofs.StandingLaws.{count-put, count-has}
 use Rattle.tally.specs.Tap.{fields, tap_fits}
-use Rattle.tally.specs.TapLaws.{prompt_in_lem}
+use Rattle.tally.proofs.TapLaws.{prompt_in_lem}
 use Rattle.tally.specs.declared.Standing.{Standing}
 use Rattle.tally.specs.declared.Tap.{Tap}
 use Rattle.ledger.specs.LimitLaws.{range-parts}
 use Rattle.ledger.specs.Log.{gathered, remaining, waiting_in}
-use Rattle.ledger.specs.LogLaws.{put-log, same_place, newly_mem, mem-newly, remaining_mem, remains_or_goes, few-newly}
-use Rattle.ledger.specs.LogLaws.{raise-total, merge_all_base, merge_all-over, merge_all_under, merge_all-fits}
-use Rattle.ledger.specs.LogLaws.{remaining-rising, remaining_le}
+use Rattle.ledger.proofs.LogLaws.{put-log, same_place, newly_mem, mem-newly, remaining_mem, remains_or_goes, few-newly}
+use Rattle.ledger.proofs.LogLaws.{raise-total, merge_all_base, merge_all-over, merge_all_under, merge_all-fits}
+use Rattle.ledger.proofs.LogLaws.{remaining-rising, remaining_le}
 use Rattle.ledger.specs.ReadyLaws.{ready-rises, ready_drops}
 use Rattle.ledger.specs.Record.{Record, place, record_fits, has, is_applied, may_go, everywhere, stamp_of}
-use Rattle.ledger.specs.RecordLaws.{obeys, everywhere-from, everywhere-at, go_from, applied_mono, go-applied}
-use Rattle.ledger.specs.RecordLaws.{go-everywhere, has-at, has-from, Obeys, stamp-fits, stamp_under}
+use Rattle.ledger.proofs.RecordLaws.{obeys, everywhere-from, everywhere-at, go_from, applied_mono, go-applied}
+use Rattle.ledger.proofs.RecordLaws.{go-everywhere, has-at, has-from, Obeys, stamp-fits, stamp_under}
 use Rattle.meaning.specs.Book.{Book, row, known, ready, waiting}
 use Rattle.meaning.specs.BookLaws.{Sound, me_in, ready-below, applied-here}
 use Rattle.meaning.specs.Step.{taps_of, settle, now_ready, now_applied, now_noted}

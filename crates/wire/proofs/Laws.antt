@@ -19,13 +19,13 @@ use Rattle.std.proofs.Math.Dec.{T, ltb, eqb→eq}
 use Rattle.std.proofs.Math.ListN.{length, get_or}
 use Rattle.std.proofs.Math.Seq.{take_at, drop_at}
 use Rattle.lists.specs.TestLaws.{and_l, and_r, both, is_true}
-use Rattle.lists.specs.ElementLaws.{eq→eqb}
+use Rattle.lists.proofs.ElementLaws.{eq→eqb}
 use Rattle.lists.specs.Tests.{every}
 use Rattle.stamp.specs.Stamp.{Stamp, total}
 use Rattle.stamp.specs.Parts.{parts_at, list_of}
 use Rattle.numbers.specs.Number.{number_from, Bytes}
 use Rattle.numbers.specs.Fields.{fields_fit}
-use Rattle.numbers.specs.FieldLaws.{length-read, read_write, write_read, fit-read, length_write}
+use Rattle.numbers.proofs.FieldLaws.{length-read, read_write, write_read, fit-read, length_write}
 use Rattle.wire.specs.declared.Said.{Said}
 use Rattle.wire.specs.declared.Said.TheVariants as said
 use Rattle.wire.specs.declared.Written.{Written}
@@ -43,7 +43,7 @@ use Rattle.wire.specs.Kinds.{head_body, record_body, tap_message_body}
 use Rattle.wire.specs.Kinds.{question_body, taken_body, already_body, verdict_body, wait_body, refusal_body}
 use Rattle.wire.specs.Kinds.{gossip_taken_body, open_body, send_body}
 use Rattle.wire.specs.Read.{line_of, readable, read_as}
-use Rattle.wire.specs.Returns.{fit_length}
+use Rattle.wire.proofs.Returns.{fit_length}
 use Rattle.wire.specs.Write.{Output, Meets, refuse, writable, written, write_as}
 
 -- a body that a table has is no longer than all of them

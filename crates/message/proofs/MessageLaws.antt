@@ -20,25 +20,25 @@ use Rattle.std.proofs.Math.ListN.{get_or, length-append, length-map, get_or-map}
 use Rattle.std.proofs.Math.Seq.{take_at, drop_at}
 use Rattle.lists.specs.TestLaws.{◌∈◌, and_l, and_r, both, given, done, ◌also◌, all_from, every-at, every-get_or}
 use Rattle.lists.specs.TestLaws.{same_test}
-use Rattle.lists.specs.ElementLaws.{eq→eqb}
+use Rattle.lists.proofs.ElementLaws.{eq→eqb}
 use Rattle.lists.specs.Order.{rising, same_key}
 use Rattle.lists.specs.Rows.{rows, flat}
 use Rattle.lists.specs.RowLaws.{Wide, rows-flat, length-flat}
-use Rattle.lists.specs.Sorted.{same_key→≡, same_key-refl}
+use Rattle.lists.proofs.Sorted.{same_key→≡, same_key-refl}
 use Rattle.lists.specs.Tests.{every}
 use Rattle.limits.specs.Limits.{log_room}
 use Rattle.numbers.specs.Number.{Bytes}
 use Rattle.numbers.specs.NumberLaws.{bytes_append, bytes_take, bytes_drop}
-use Rattle.numbers.specs.FieldLaws.{bytes_write}
+use Rattle.numbers.proofs.FieldLaws.{bytes_write}
 use Rattle.tally.specs.Body.{body_fits}
 use Rattle.ledger.specs.Message.{Message, message_rules, message_fits}
 use Rattle.ledger.specs.Record.{Record, place, is_known, record_fits}
 use Rattle.wire.specs.Kinds.{Kind, widths, head_kind, record_kind, record_in, stamp_at, head_long, record_long}
-use Rattle.wire.specs.Laws.{lawful-head, lawful_record, line-written, length-written, read-written, written-line}
+use Rattle.wire.proofs.Laws.{lawful-head, lawful_record, line-written, length-written, read-written, written-line}
 use Rattle.wire.specs.Read.{line_of, readable}
 use Rattle.wire.specs.Write.{writable, written}
 use Rattle.message.specs.Find.{part_at}
-use Rattle.message.specs.FindLaws.{whole-bytes}
+use Rattle.message.proofs.FindLaws.{whole-bytes}
 use Rattle.message.specs.LineLaws.{said-line, record-line, line_record, record-writable, stamp-fits, house}
 use Rattle.message.specs.LineLaws.{head-stamp, head-writable}
 use Rattle.wire.specs.Head.{head_line, sender_in, screens_in, count_in, stamp_in}

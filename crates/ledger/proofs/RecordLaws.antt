@@ -3,7 +3,7 @@ use Rattle.std.specs.Prelude.{◌≤◌, ◌<◌, ℕ, ◌≡◌, not, ◌&&◌,
 use Rattle.std.proofs.Common.{arith, subst, sym, leb→le, le→leb, eqb→eq, ltb→lt}
 use Rattle.std.proofs.Math.Dec.{nleb→lt}
 use Rattle.lists.specs.TestLaws.{and_l, and_r, both, every-get_or, get_or-every, ◌∈◌, exists-at, exists-from, given, either}
-use Rattle.lists.specs.ElementLaws.{eq→eqb}
+use Rattle.lists.proofs.ElementLaws.{eq→eqb}
 use Rattle.limits.specs.Limits.{parts, word}
 use Rattle.stamp.specs.Laws.{Covers, at_most-parts, parts-at_most, Fits, fits, part_replaced, part_either, fits-replace}
 use Rattle.stamp.specs.Stamp.{Stamp, part, at_most}

@@ -18,12 +18,12 @@ use Rattle.std.proofs.Math.Seq.{length-take-le}
 use Rattle.std.specs.Borrow.{Bor}
 use denote.Slice.{slice_val, shr_slice_vals}
 use Rattle.lists.specs.TestLaws.{either, and_r, is_true}
-use Rattle.lists.specs.Neighbours.{map-rising}
+use Rattle.lists.proofs.Neighbours.{map-rising}
 use Rattle.lists.specs.Order.{key_before, rising}
 use Rattle.lists.specs.Part.{mid}
 use Rattle.lists.specs.Rows.{rows, flat}
 use Rattle.lists.specs.RowLaws.{Wide, wide_rows, flat_rows, rows-flat, length-flat}
-use Rattle.lists.specs.Sorted.{before_cons, map-keep}
+use Rattle.lists.proofs.Sorted.{before_cons, map-keep}
 use Rattle.lists.specs.Tests.{every, keep}
 use Rattle.stamp.specs.Stamp.{Stamp}
 use Rattle.numbers.specs.Number.{number_from}

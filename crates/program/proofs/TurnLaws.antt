@@ -19,7 +19,7 @@ use Rattle.frames.specs.declared.Frame.{Frame}
 use Rattle.frames.specs.declared.Frame.TheVariants as frame
 use Rattle.answer.specs.Answer.{done_on, open_from}
 use Rattle.program.specs.Said.{bad, said_from, said_in}
-use Rattle.program.specs.SaidLaws.{said-end, said-broken, said-turn, begin-broken, begin-refused, begin-opened}
+use Rattle.program.proofs.SaidLaws.{said-end, said-broken, said-turn, begin-broken, begin-refused, begin-opened}
 use Rattle.program.specs.Turn.{Turned, last_turn, quiet_turn, open_turn, message_turn, turn_by, turn_on, Turns}
 use Rattle.program.specs.declared.Turn.{Turn}
 use Rattle.program.specs.declared.Turn.TheVariants.{Read, Say, Last, Stop}

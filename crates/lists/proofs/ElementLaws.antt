@@ -7,7 +7,7 @@ use Rattle.std.proofs.Math.Dec.{eqb_refl}
 use Rattle.lists.specs.TestLaws.{either, tell, clash, bit, bit_le, both, and_r, and_l, here, ◌∈◌, there, is_true}
 use Rattle.lists.specs.TestLaws.{is_false, keep-length, mem-keep, none_in, keep_mem, first_of-some, every-at}
 use Rattle.lists.specs.Order.{insert, key_before}
-use Rattle.lists.specs.Sorted.{before-total}
+use Rattle.lists.proofs.Sorted.{before-total}
 use Rattle.lists.specs.Tests.{every, all_below, numbers, keep, first_of}
 
 pub eq→eqb : (a b : ℕ) → a ≡ b → T (eqb a b)

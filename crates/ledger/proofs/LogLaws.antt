@@ -6,14 +6,14 @@ use Rattle.lists.specs.TestLaws.{there, here, ◌∈◌, keep_mem, mem-keep, not
 use Rattle.lists.specs.TestLaws.{bit, keep-keep_le, keep_share, or_cases, all_below-at, all_below-from, or_l, or_r, and_r}
 use Rattle.lists.specs.TestLaws.{none_in}
 use Rattle.lists.specs.Order.{rising, key_before}
-use Rattle.lists.specs.Sorted.{Put, head-before, tail-rising, put_all, keep-rising}
+use Rattle.lists.proofs.Sorted.{Put, head-before, tail-rising, put_all, keep-rising}
 use Rattle.lists.specs.Tests.{keep, all_below}
 use Rattle.stamp.specs.Laws.{Covers, total_mono, total-raised, part_either, part-merge, Fits, fits-merge}
 use Rattle.stamp.specs.Stamp.{Stamp, part, total, replace}
 use Rattle.ledger.specs.Log.{gathered, unknowns, newly_applied, remaining, waiting_in, all_held, gapless, merge_all}
 use Rattle.ledger.specs.Message.{Message}
 use Rattle.ledger.specs.Record.{Record, place, is_known, is_applied, may_go, is_waiting, has, everywhere, stamp_of}
-use Rattle.ledger.specs.RecordLaws.{unknown_lt, known_le, waiting-not, applied_mono, waiting-from}
+use Rattle.ledger.proofs.RecordLaws.{unknown_lt, known_le, waiting-not, applied_mono, waiting-from}
 
 -- what is gathered
 pub put-log : (new log : List Record) → Put place new log (gathered new log)

@@ -6,7 +6,7 @@ use Rattle.lists.specs.TestLaws.{◌∈◌, exists-from, exists-at, given, and_l
 use Rattle.limits.specs.Limits.{prompt_count, accept, decline, showings}
 use Rattle.tally.specs.Standing.{among}
 use Rattle.tally.specs.Tap.{same_tap, tap_fits, tap_rules}
-use Rattle.tally.specs.WordLaws.{same_tap_lem, tap-same}
+use Rattle.tally.proofs.WordLaws.{same_tap_lem, tap-same}
 use Rattle.tally.specs.declared.Tap.{Tap}
 
 -- among some taps, by the test and by membership

@@ -6,7 +6,7 @@ use Rattle.std.proofs.Math.Option.{Option, none, some}
 use Rattle.lists.specs.TestLaws.{not-not, and_l, and_r, passed, first_of-none, all_from, not_intro, ◌also◌, both}
 use Rattle.lists.specs.TestLaws.{not-from}
 use Rattle.lists.specs.TestLaws.{done, either, tell, is_true, is_false, clash, same_test}
-use Rattle.lists.specs.ElementLaws.{first_passes, none_first, eq→eqb}
+use Rattle.lists.proofs.ElementLaws.{first_passes, none_first, eq→eqb}
 use Rattle.lists.specs.Tests.{first_of, every}
 use Rattle.limits.specs.Limits.{prompt_count}
 use Rattle.stamp.specs.Laws.{Covers, at_most-parts, parts-at_most}

@@ -7,7 +7,7 @@ use Rattle.std.proofs.Math.Dec.{T}
 use Rattle.lists.specs.TestLaws.{◌∈◌, either, none_in}
 use Rattle.tally.specs.Body.{Body, says, said_fits, body_word, body_of, body_fits, taps_said, taps_in}
 use Rattle.tally.specs.Tap.{tap_fits, word_of, tap_of}
-use Rattle.tally.specs.WordLaws.{fits_bits, tap-word, word_tap}
+use Rattle.tally.proofs.WordLaws.{fits_bits, tap-word, word_tap}
 use Rattle.tally.specs.declared.Tap.{Tap}
 
 -- word and body give each other back: the body of a tap's word says that tap

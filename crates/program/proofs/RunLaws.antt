@@ -16,7 +16,7 @@ use Rattle.program.specs.Runs.{Desk, at_first, turn_at, after_read, after_end, a
 use Rattle.program.specs.Runs.{Says, last, stops, onward, Reached, begun, after}
 use Rattle.program.specs.Said.{bad, said_by, said_in}
 use Rattle.program.specs.Turn.{last_turn, quiet_turn, say_turn, open_turn, turn_by, turn_on}
-use Rattle.program.specs.TurnLaws.{Means, turn-means}
+use Rattle.program.proofs.TurnLaws.{Means, turn-means}
 use Rattle.program.specs.declared.Turn.{Turn}
 use Rattle.program.specs.declared.Turn.TheVariants.{Read, Say, Last, Stop}
 

@@ -1,0 +1,4 @@
+pub mod MessageLaws
+pub mod Cases
+pub mod LogLaws
+pub mod RecordLaws

@@ -1,0 +1,3 @@
+pub mod ElementLaws
+pub mod Neighbours
+pub mod Sorted
