@@ -19,6 +19,7 @@ def long_lines(path):
 def main():
     top = pathlib.Path(__file__).resolve().parent.parent
     files = [p for kind in ("*.rt", "*.antt") for p in sorted((top / "crates").rglob(kind))]
+    files = [p for p in files if "out" not in p.relative_to(top).parts]
     files += sorted((top / "docs").rglob("*.md")) + [top / "README.md", top / "host" / "README.md"]
     found = [line for path in files for line in long_lines(path)]
     print("\n".join(found) if found else f"{len(files)} files: no line has more than {COLUMNS} columns")

@@ -193,7 +193,8 @@ module _ (ws out : List ℕ) where
 
     pub send-owes :
         (k ≡ 12 → ⊥) → (long : ℕ) (after : List ℕ) → long ≡ long_in (put_front (bytes_for (refusal k)) bytes).answer
-        → after ≡ (put_front (bytes_for (refusal k)) bytes).bytes → Answers (answer_by (send_done ws) ws out) long ws after
+        → after ≡ (put_front (bytes_for (refusal k)) bytes).bytes
+        → Answers (answer_by (send_done ws) ws out) long ws after
     send-owes n long after f g =
         let same : bytes_for (refusal k) ≡ send_says ws = ap (λ (x : ℕ). bytes_for (refusal x)) (unsound n).0
         ∙ sym (unsound n).1 in

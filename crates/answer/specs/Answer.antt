@@ -55,7 +55,12 @@ abbrev pub tap_line : Line
 tap_line = record { number = tap_number; room = tap_long; done = λ ws bytes. done_by (tap_on ws bytes) }
 
 abbrev pub question_line : Line
-question_line = record { number = question_number; room = question_long; done = λ ws bytes. done_by (question_on ws bytes) }
+question_line = record {
+  number = question_number;
+  room = question_long;
+  done = λ ws bytes. done_by
+      (question_on ws bytes);
+}
 
 abbrev pub send_line : Line
 send_line = record { number = send_number; room = longest; done = other_done }

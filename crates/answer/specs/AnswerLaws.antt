@@ -18,8 +18,10 @@ use Rattle.std.proofs.Math.Dec.{T, eqb}
 use Rattle.lists.specs.TestLaws.{is_true, and_l}
 use Rattle.limits.specs.LimitLaws.{log-some}
 use Rattle.limits.specs.Limits.{log_room}
-use Rattle.limits.specs.KindNumbers.{head_number, tap_number, question_number, taken_number, gossip_taken_number, send_number}
-use Rattle.wire.specs.Kinds.{refusal_kind, send_kind, in_table, body_by, is_long, shaped, head_long, longest, record_long}
+use Rattle.limits.specs.KindNumbers.{head_number, tap_number, question_number, taken_number, gossip_taken_number}
+use Rattle.limits.specs.KindNumbers.{send_number}
+use Rattle.wire.specs.Kinds.{refusal_kind, send_kind, in_table, body_by, is_long, shaped, head_long, longest}
+use Rattle.wire.specs.Kinds.{record_long}
 use Rattle.wire.specs.Requests.{tap_long, question_long, gossip_long, refusal_long}
 use Rattle.wire.specs.Read.{readable}
 use Rattle.wire.specs.Write.{writable}
@@ -77,7 +79,12 @@ module _ (ws bytes : List ℕ) where
       → done_on ws bytes ≡ other_done ws bytes
   unfolding done_on
   other-done a b c =
-      rw (ne_eqb (kind_in bytes) head_number a, ne_eqb (kind_in bytes) tap_number b, ne_eqb (kind_in bytes) question_number c)
+      rw (
+        ne_eqb (kind_in bytes) head_number a,
+        ne_eqb (kind_in bytes) tap_number b,
+        ne_eqb (kind_in bytes)
+            question_number c,
+      )
       (go (eqb (kind_in bytes) send_number) refl (readable send_kind bytes) refl)
     where
       go : (twelve : Bool) → eqb (kind_in bytes) send_number ≡ twelve → (send : Bool) → readable send_kind bytes ≡ send
@@ -314,7 +321,8 @@ module _ (ws bytes : List ℕ) where
       first : cond (eqb (length says) 0) 0 (get_or (says ++ drop (length says) out) 0 0) ≡ get_or says 0 0
       first = first_said says (drop (length says) out) (within ws bytes).some
 
-      go : (short : Bool) → let a = given ws bytes out short in eqb (kind_said a) 5 ≡ false → eqb (kind_said a) 10 ≡ false
+      go : (short : Bool) → let a = given ws bytes out short in eqb (kind_said a) 5 ≡ false → eqb (kind_said a) 10
+          ≡ false
           → a.words ≡ ws
       go true e f = refl
       go false e f = done-keeps (ap (λ (k : ℕ). eqb k 5) (sym first) ∙ e) (ap (λ (k : ℕ). eqb k 10) (sym first) ∙ f)

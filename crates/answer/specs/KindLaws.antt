@@ -5,7 +5,8 @@ use Rattle.std.specs.Prelude.{ℕ, ◌≡◌, refl, false, eqb, get_or}
 use Rattle.std.proofs.Common.{ap, ◌∙◌}
 use Rattle.limits.specs.KindNumbers.{head_number}
 use Rattle.numbers.specs.Number.{bytes_of}
-use Rattle.wire.specs.Kinds.{taken_kind, already_kind, verdict_kind, wait_kind, refusal_kind, gossip_taken_kind, head_kind}
+use Rattle.wire.specs.Kinds.{taken_kind, already_kind, verdict_kind, wait_kind, refusal_kind, gossip_taken_kind}
+use Rattle.wire.specs.Kinds.{head_kind}
 use Rattle.wire.specs.Write.{written}
 use Rattle.message.specs.Message as gossip
 use Rattle.message.specs.Message.{head_of}

@@ -6,7 +6,8 @@
 --     tap-says ..     every reply of an operation can be written, whatever the words and the bytes
 --     open-says       and so can open's refusals
 --     tap-long ..     and how long it is at most
-use Rattle.std.specs.Prelude.{ℕ, zero, suc, ◌+◌, ◌^◌, ◌≤◌, ◌<◌, ◌≡◌, Bool, true, false, ◌&&◌, ◌||◌, cond, List, [], ◌∷◌, eqb, ltb, leb, length, get_or, replicate}
+use Rattle.std.specs.Prelude.{ℕ, zero, suc, ◌+◌, ◌^◌, ◌≤◌, ◌<◌, ◌≡◌, Bool, true, false, ◌&&◌, ◌||◌, cond, List, [], ◌∷◌}
+use Rattle.std.specs.Prelude.{eqb, ltb, leb, length, get_or, replicate}
 use Rattle.std.proofs.Common.{arith, sym, ◌∙◌, lt→ltb, le→leb, leb→le}
 use Rattle.std.proofs.Math.Path.{refl, ap, subst}
 use Rattle.std.proofs.Math.Bool.{not}
@@ -44,13 +45,15 @@ use Rattle.meaning.proofs.AnswerLaws.{answered-done}
 use Rattle.meaning.specs.Book.{Book, known, ready, holds, standing_at, fresh}
 use Rattle.meaning.specs.BookLaws.{Sound, me_in, known-fits, standing_small, showing_small}
 use Rattle.meaning.specs.Reply.{Reply, taken, already, verdict, wait, refusal, gossiped, figures, is_taken, is_answered}
-use Rattle.meaning.specs.Step.{Outcome, stop_or, open_stops, new_record, take_out, first_stamp, tap_stops, tap_step, ask_stops}
+use Rattle.meaning.specs.Step.{Outcome, stop_or, open_stops, new_record, take_out, first_stamp, tap_stops, tap_step}
+use Rattle.meaning.specs.Step.{ask_stops}
 use Rattle.meaning.specs.Step.{answer_of, ask, new_ones, now_ready, now_applied, gossip_stops, gossip_step}
 use Rattle.meaning.specs.Done.{TakeDone, GossipDone}
 use Rattle.meaning.proofs.StepLaws.{next_word, tap_cases, gossip_cases}
 use Rattle.lent.specs.SoundWords.{lawful-sound}
 use Rattle.lent.specs.Words.{book_long, book_of, words_of, lawful}
-use Rattle.promise.specs.Lent.{Lent, on_book, heard, tap_on, question_on, gossip_on, hear, of_tap, of_question, of_gossip}
+use Rattle.promise.specs.Lent.{Lent, on_book, heard, tap_on, question_on, gossip_on, hear, of_tap, of_question}
+use Rattle.promise.specs.Lent.{of_gossip}
 use Rattle.promise.specs.Lent.{put_front, open_or, open_on}
 use Rattle.promise.specs.Spoken.{spoken}
 use Rattle.promise.specs.declared.Reply as answer

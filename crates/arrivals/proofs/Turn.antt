@@ -78,18 +78,20 @@ module _ (bytes : List ℕ) (n : ℕ) (m : Stamp) (h : Head bytes n m) (i : ℕ)
       ∙ rw (is_true (readable (record_kind n m) (part_at i bytes)) readable-at) in
       other (get_or line 1 0) (get_or line 2 0) (parts_at 3 line) (tap_at (3 + parts) line) e
 
-  module _ (o q : ℕ) (p : Parts) (t : Tap) (read : said.Record o q p t ≡ read_as (record_kind n m) (part_at i bytes)) where
-    line_at : line_of (record_kind n m) (part_at i bytes) ≡ 2 ∷ o ∷ q ∷ list_of p ++ fields t
-    line_at = told_line (record_kind n m) (part_at i bytes) (said.Record o q p t) read (lawful_record n m) (omega arith)
+  module _ (o q : ℕ) (p : Parts) (t : Tap) (read : said.Record o q p t ≡ read_as (record_kind n m) (part_at i bytes))
+    where
+      line_at : line_of (record_kind n m) (part_at i bytes) ≡ 2 ∷ o ∷ q ∷ list_of p ++ fields t
+      line_at =
+          told_line (record_kind n m) (part_at i bytes) (said.Record o q p t) read (lawful_record n m) (omega arith)
 
-    pub tap-bits : FitsBits t
-    unfolding list_of
-    tap-bits = fits_bits t (subst (λ (line : List ℕ). T (tap_fits (tap_at (3 + parts) line))) line_at
-        (part-rules n m (part_at i bytes) readable-at).0)
+      pub tap-bits : FitsBits t
+      unfolding list_of
+      tap-bits = fits_bits t (subst (λ (line : List ℕ). T (tap_fits (tap_at (3 + parts) line))) line_at
+          (part-rules n m (part_at i bytes) readable-at).0)
 
-    pub record-read : record { origin = o; number = q; label = list_of p; body = word_of t } ≡ record_no bytes i
-    unfolding record_no record_from list_of parts_at
-    record-read = rw (kind_in_lem, line_at)
+      pub record-read : record { origin = o; number = q; label = list_of p; body = word_of t } ≡ record_no bytes i
+      unfolding record_no record_from list_of parts_at
+      record-read = rw (kind_in_lem, line_at)
 
 -- one turn of the survey, with record i at hand as r
 module _ (bytes : List ℕ) (w : T (well_formed bytes)) (i : ℕ) (l : i < count_in bytes) (r : Record)

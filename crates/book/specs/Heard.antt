@@ -41,7 +41,8 @@ use Rattle.meaning.specs.Reply.{Reply, refusal}
 use Rattle.meaning.specs.Step.{Outcome, tap_stops, tap_step, ask, send, gossip_stops, gossip_step}
 use Rattle.lent.specs.SoundWords.{lawful-held}
 use Rattle.lent.specs.Words.{book_of, words_of, lawful}
-use Rattle.promise.specs.Lent.{Lent, Promise, on_book, heard, stop_on, tap_on, tap_stop, question_on, gossip_on, gossip_stop}
+use Rattle.promise.specs.Lent.{Lent, Promise, on_book, heard, stop_on, tap_on, tap_stop, question_on, gossip_on}
+use Rattle.promise.specs.Lent.{gossip_stop}
 use Rattle.promise.specs.Lent.{put_front, send_on}
 use Rattle.promise.specs.LentLaws.{lent_of}
 use Rattle.promise.specs.Spoken.{spoken}
@@ -123,7 +124,8 @@ module _ (ws bytes : List ℕ) (t : Tap) (l : Parts) (e : lawful ws ≡ true)
   unfolding readable tap_kind
   tap-fits =
       let line = line_of (tap_kind (book_of ws).screens) bytes in
-      let kept : T (tap_fits (tap_at 1 line) && stamp_fits (book_of ws).screens (stamp_at 6 line)) = and_r (shaped 3 bytes)
+      let kept : T (tap_fits (tap_at 1 line) && stamp_fits (book_of ws).screens (stamp_at 6 line)) = and_r
+      (shaped 3 bytes)
       (tap_fits (tap_at 1 line) && stamp_fits (book_of ws).screens (stamp_at 6 line)) tap-told.0 in (
         subst (λ (x : Tap). T (tap_fits x)) (sym tap_is.0)
             (and_l (tap_fits (tap_at 1 line)) (stamp_fits (book_of ws).screens (stamp_at 6 line)) kept),
@@ -280,7 +282,8 @@ module _ (ws bytes : List ℕ) (c : gossip_stop ws bytes ≡ none) where
   pub gossip_may : T (lawful ws) × (first_of (gossip_stops (book_of ws) (message_of bytes)) ≡ none)
   gossip_may = (subst T (sym gossip_clears.0) tt, gossip_clears.2)
 
-  pub gossip-owes : (r : answer.Reply) (w : List ℕ) → Promise (lent_of (gossip_step (book_of ws) (message_of bytes))) r w
+  pub gossip-owes : (r : answer.Reply) (w : List ℕ)
+      → Promise (lent_of (gossip_step (book_of ws) (message_of bytes))) r w
       → Promise (gossip_on ws bytes) r w
   unfolding gossip_on
   gossip-owes r w p = owes-step ws gossip_clears.0 (well_formed bytes) gossip_clears.1

@@ -3,8 +3,10 @@
 --     climb-holds     every number up to an end stamp, for the first n origins
 --     all_held-climb   every known record is in the log or known everywhere
 --     gapless-climb   a message has no gap
-use Rattle.std.specs.Prelude.{ℕ, suc, ◌≤◌, ◌<◌, ◌≡◌, ◌⊎◌, ◌≢◌, Bool, ◌&&◌, ◌||◌, List, [], ◌∷◌, T, leb, ltb, eqb, length, set}
-use Rattle.std.proofs.Common.{arith, sym, ap, ◌∙◌, inl, inr, leb→le, le→leb, length-set, get_or-set_same, get_or-set_other, eq-eqb, ne_eqb}
+use Rattle.std.specs.Prelude.{ℕ, suc, ◌≤◌, ◌<◌, ◌≡◌, ◌⊎◌, ◌≢◌, Bool, ◌&&◌, ◌||◌, List, [], ◌∷◌, T, leb, ltb, eqb}
+use Rattle.std.specs.Prelude.{length, set}
+use Rattle.std.proofs.Common.{arith, sym, ap, ◌∙◌, inl, inr, leb→le, le→leb, length-set, get_or-set_same}
+use Rattle.std.proofs.Common.{get_or-set_other, eq-eqb, ne_eqb}
 use Rattle.std.proofs.Math.Bool.{or_comm}
 use mathlib.Core.List.Memᴰ
 use Rattle.lists.specs.Scan.{le_or_lt}
@@ -110,7 +112,8 @@ finds (x ∷ xs) s k e h o f =
             (λ m. has-from xs k (suc q) w.0 m w.2 w.3)
 
 -- the same facts as tests
-test-found : (rs : List Record) (s : Stamp) (k e : ℕ) → T (all_below e (λ q. has rs k (suc q) || leb (suc q) (part s k)))
+test-found : (rs : List Record) (s : Stamp) (k e : ℕ)
+    → T (all_below e (λ q. has rs k (suc q) || leb (suc q) (part s k)))
     → Found rs s k e
 test-found rs s k e t q b =
     either (or_cases (has rs k (suc q)) (leb (suc q) (part s k))

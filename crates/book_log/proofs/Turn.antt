@@ -135,7 +135,8 @@ module _ (n : ℕ) (r : List ℕ) (i at : ℕ) (h : i + 1 < n) where
       && rising place (records_from n r (i + 1) (at + row_long)))
   rising_pair =
       ap (rising place) pair ∙ rising-next place (lent_at r at) (lent_at r (at + row_long)) after
-      ∙ ap (λ (l : List Record). key_before (place (lent_at r at)) (place (lent_at r (at + row_long))) && rising place l)
+      ∙ ap (λ (l : List Record). key_before (place (lent_at r at)) (place (lent_at r (at + row_long)))
+      && rising place l)
       (sym second)
 
   pub rising-on : key_before (place (lent_at r at)) (place (lent_at r (at + row_long))) ≡ true

@@ -7,7 +7,8 @@ use Rattle.ledger.specs.Record.{Record, has}
 
 -- every number above the start and up to the end is there, for each of the first n origins
 unfoldable pub holds_all : ℕ → Stamp → Stamp → List Record → Bool
-holds_all n start end rs = all_below n (λ k. all_below (part end k) (λ q. has rs k (suc q) || leb (suc q) (part start k)))
+holds_all n start end rs = all_below n
+    (λ k. all_below (part end k) (λ q. has rs k (suc q) || leb (suc q) (part start k)))
 
 -- q if it is the next number, else what was reached
 abbrev pub raised : ℕ → ℕ → ℕ

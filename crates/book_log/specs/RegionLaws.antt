@@ -1,6 +1,8 @@
 -- Laws of the log's words: records and rows give each other back. Assumes nothing.
-use Rattle.std.specs.Prelude.{ℕ, suc, ◌+◌, ◌-◌, ◌*◌, ◌≤◌, ◌≡◌, refl, Bool, List, [], ◌∷◌, ◌++◌, map, T, eqb, length, take, drop, get_or, replicate}
-use Rattle.std.proofs.Common.{arith, sym, ap, ap₂, ◌∙◌, append_assoc, length-append, take-append-drop, drop_of_length-le, take_at, drop-drop}
+use Rattle.std.specs.Prelude.{ℕ, suc, ◌+◌, ◌-◌, ◌*◌, ◌≤◌, ◌≡◌, refl, Bool, List, [], ◌∷◌, ◌++◌, map, T, eqb, length}
+use Rattle.std.specs.Prelude.{take, drop, get_or, replicate}
+use Rattle.std.proofs.Common.{arith, sym, ap, ap₂, ◌∙◌, append_assoc, length-append, take-append-drop}
+use Rattle.std.proofs.Common.{drop_of_length-le, take_at, drop-drop}
 use Rattle.std.proofs.Math.Dec.{eqb→eq}
 use Rattle.std.proofs.lemmas.List.{length-replicate, length-map, get_or_at}
 use Rattle.limits.specs.Limits.{parts}
@@ -19,7 +21,8 @@ whole_label r = eqb (length r.label) parts
 pub row_record_lem : (c : List ℕ) → length c ≡ row_long → row_of (record_at c) ≡ c
 row_record_lem c h =
     let over : length c ≤ row_long = omega arith in
-    let last : drop parts (drop 2 c) ≡ get_or c body_place 0 ∷ [] = drop-drop parts 2 c ∙ rest c body_place (omega arith)
+    let last : drop parts (drop 2 c) ≡ get_or c body_place 0 ∷ [] = drop-drop parts 2 c
+    ∙ rest c body_place (omega arith)
     ∙ ap (λ (l : List ℕ). get_or c body_place 0 ∷ l) (drop_of_length-le c over) in
     ap (λ (l : List ℕ). get_or c 0 0 ∷ get_or c 1 0 ∷ l)
     (ap (λ (l : List ℕ). take parts (drop 2 c) ++ l) (sym last) ∙ take-append-drop parts (drop 2 c))

@@ -3,7 +3,8 @@
 --     more-short    more bytes are asked for only while fewer are read, and never more than five
 --     whole_long    a message has at least one byte, and no more than the longest
 --     front_tells   nothing past the fifth byte matters
-use Rattle.std.specs.Prelude.{ℕ, ◌+◌, ◌*◌, ◌≤◌, ◌<◌, ◌≡◌, refl, Bool, true, false, cond, List, [], ◌∷◌, ◌++◌, T, eqb, ltb, length, take}
+use Rattle.std.specs.Prelude.{ℕ, ◌+◌, ◌*◌, ◌≤◌, ◌<◌, ◌≡◌, refl, Bool, true, false, cond, List, [], ◌∷◌, ◌++◌, T, eqb}
+use Rattle.std.specs.Prelude.{ltb, length, take}
 use Rattle.std.proofs.Common.{arith, ap, ltb-true, ltb-false, le-ltb}
 use Rattle.lists.specs.Part.{mid}
 use Rattle.limits.specs.LimitLaws.{log-some}
@@ -121,7 +122,8 @@ unfolding frame_of
 whole_long [] opened n e = let z : ◌≡◌ {A = ℕ} 0 1 = cc in absurd (omega arith)
 whole_long (k ∷ rest) opened n e = go (expected opened k) (eqb k 1) e
   where
-    go : (p q : Bool) → by_kind p q (gossip_frame (k ∷ rest)) (body_frame (body_by k)) ≡ Whole n → (1 ≤ n) × (n ≤ longest)
+    go : (p q : Bool) → by_kind p q (gossip_frame (k ∷ rest)) (body_frame (body_by k)) ≡ Whole n → (1 ≤ n)
+        × (n ≤ longest)
     go true true w = gossip-long (k ∷ rest) n w
     go true false w = body-long k n w
     go false q w = let z : ◌≡◌ {A = ℕ} 0 1 = cc in absurd (omega arith)

@@ -5,7 +5,8 @@
 --     next-settled a message or a stop, once told, stays whatever comes
 --     next_least   no message has fewer bytes than were asked for
 use Rattle.std.specs.Prelude.{ℕ, ◌+◌, ◌*◌, ◌≤◌, ◌<◌, ◌≡◌, Bool, ◌||◌, List, [], ◌∷◌, ◌++◌, leb, ltb, length, get_or}
-use Rattle.std.proofs.Common.{arith, sym, ap₂, subst, ◌∙◌, ltb-true, ltb-false, le-ltb, leb-false, eq-eqb, eqb-true, length-append}
+use Rattle.std.proofs.Common.{arith, sym, ap₂, subst, ◌∙◌, ltb-true, ltb-false, le-ltb, leb-false, eq-eqb, eqb-true}
+use Rattle.std.proofs.Common.{length-append}
 use Rattle.std.proofs.Math.Path.{refl, ap}
 use Rattle.std.proofs.Math.Bool.{true, false, cond}
 use Rattle.std.proofs.lemmas.Bool.{lt-leb}
@@ -37,7 +38,8 @@ gossip_framed read n = go (ltb (length read) count_end) refl (ltb log_room (coun
     go false s true t e = let z : ◌≡◌ {A = ℕ} 0 1 = cc in absurd (omega arith)
     go false s false t e = (ltb-false (length read) count_end s, ltb-false log_room (count_in read) t, cc)
 
-pub counted : (read : List ℕ) (opened : Bool) (n : ℕ) → frame_of read opened ≡ Whole n → (0 < length read) × Counted read
+pub counted : (read : List ℕ) (opened : Bool) (n : ℕ) → frame_of read opened ≡ Whole n → (0 < length read)
+    × Counted read
 unfolding frame_of
 counted [] opened n e = let z : ◌≡◌ {A = ℕ} 0 1 = cc in absurd (omega arith)
 counted (k ∷ rest) opened n e =
@@ -108,7 +110,8 @@ count-settled read more h =
 
 module _ (read more : List ℕ) where
   -- a byte of kind that is read stays as it is
-  stands-still : (k : ℕ) → head_long + k * record_long < length read → record_stands (read ++ more) k ≡ record_stands read k
+  stands-still : (k : ℕ) → head_long + k * record_long < length read → record_stands (read ++ more) k
+      ≡ record_stands read k
   stands-still k h =
       let at = head_long + k * record_long in
       ap₂ (λ (p : Bool) (x : ℕ). p || eqb x record_number)
@@ -120,7 +123,8 @@ module _ (read more : List ℕ) where
   stood-before k t = by (leb (length read) (head_long + k * record_long)) refl
     where
       by : (c : Bool) → leb (length read) (head_long + k * record_long) ≡ c → T (record_stands read k)
-      by true q = subst (λ (p : Bool). T (p || eqb (get_or read (head_long + k * record_long) 0) record_number)) (sym q) tt
+      by true q = subst (λ (p : Bool). T (p || eqb (get_or read (head_long + k * record_long) 0) record_number))
+          (sym q) tt
       by false q = subst T (stands-still k (leb-false (length read) (head_long + k * record_long) q)) t
 
   module _ (begun : 0 < length read) (told : Counted read) where

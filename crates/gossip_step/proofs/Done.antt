@@ -72,7 +72,8 @@ module _ (ws bytes : List ℕ) (j n count : ℕ) (m : Stamp) (w : T (lawful ws))
   rows_are = rw (sender_is bytes j n count m h, stamp_is bytes j n count m h)
 
   -- the rows are set
-  module _ (x : Stamp) (o : x ≡ m) (vs : List ℕ) (e : vs ≡ words_of (with_table (raised_rows (book_of ws) j x) (book_of ws)))
+  module _ (x : Stamp) (o : x ≡ m) (vs : List ℕ)
+      (e : vs ≡ words_of (with_table (raised_rows (book_of ws) j x) (book_of ws)))
     where
       rows_words : vs ≡ words_of (with_table rows b)
       rows_words = e ∙ ap (λ (y : List Stamp). words_of (with_table y b)) (ap (raised_rows b j) o ∙ rows_are)

@@ -79,7 +79,8 @@ module _ (ws bytes : List ℕ) (j n count : ℕ) (m : Stamp) (w : T (lawful ws))
           many : k + new ≡ length (book_of ws).log + length (new_ones (book_of ws) (message_of bytes))
           many = ap₂ ◌+◌ e new_is
 
-          pub room-refused : log_room < k + new → first_of (gossip_stops (book_of ws) (message_of bytes)) ≡ some (refusal 9)
+          pub room-refused : log_room < k + new → first_of (gossip_stops (book_of ws) (message_of bytes))
+              ≡ some (refusal 9)
           unfolding record_refusal
           room-refused r = records-refused 8
               (rw (

@@ -2,7 +2,8 @@
 --     stamp-stops, records_stop   a number other than zero: the first stop is the refusal of that number
 --     unstopped                   zero: nothing stops it
 --     same-house                  past the refusals by the stamp the message is of this house, and from another screen
-use Rattle.std.specs.Prelude.{ℕ, zero, suc, ◌+◌, ◌≡◌, refl, ◌≢◌, Bool, true, false, not, ◌&&◌, ◌||◌, cond, [], ◌∷◌, T, ltb}
+use Rattle.std.specs.Prelude.{ℕ, zero, suc, ◌+◌, ◌≡◌, refl, ◌≢◌, Bool, true, false, not, ◌&&◌, ◌||◌, cond, [], ◌∷◌, T}
+use Rattle.std.specs.Prelude.{ltb}
 use Rattle.std.proofs.Common.{arith, ap, ◌∙◌, eqb-true}
 use Rattle.std.proofs.Math.Option.{Option, none, some}
 use Rattle.std.proofs.lemmas.Bool.{eqb-false}

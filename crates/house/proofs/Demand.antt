@@ -72,7 +72,8 @@ mem-taps-applied s hs r t m a n =
 pub taps-applied_mem : (s : Stamp) (hs : List Record) (t : Tap) → t ∈ applied_taps s hs → Tapped hs s t
 unfolding applied_taps distinct
 taps-applied_mem s hs t m =
-    either ((count-put (taps_of (applied_of s hs)) []).from t m) (λ n. go (taps_mem (applied_of s hs) t n)) (λ n. none_in n)
+    either ((count-put (taps_of (applied_of s hs)) []).from t m) (λ n. go (taps_mem (applied_of s hs) t n))
+    (λ n. none_in n)
   where
     go : ((r : Record) × (r ∈ applied_of s hs) × (t ∈ taps_in r.body)) → Tapped hs s t
     go w = (w.0, (applied_mem s hs w.0 w.1).0, (applied_mem s hs w.0 w.1).1, w.2)

@@ -25,7 +25,8 @@ use Rattle.promise.specs.Lent.{Entry, of_gossip, of_tap, of_question, Lent, entr
 use Rattle.promise.specs.Lent.{put_front, send_on}
 use Rattle.answer.specs.KindLaws.{first_of, first_no-head, first_head}
 use Rattle.answer.specs.Speech.{bytes_for}
-use Rattle.answer.specs.Answer.{Done, done_by, send_done, bad_on, kind_in, entry_line, entries, send_line, done_in, done_on}
+use Rattle.answer.specs.Answer.{Done, done_by, send_done, bad_on, kind_in, entry_line, entries, send_line, done_in}
+use Rattle.answer.specs.Answer.{done_on}
 use Rattle.answer.specs.Answer.{Answered, kind_said, answer_by}
 use Rattle.answer.specs.AnswerLaws.{within, first_said}
 use Rattle.house.specs.House.{put, grown, Step}

@@ -21,7 +21,8 @@ use Rattle.ledger.specs.Record.{Record, may_go, is_applied, stamp_of, record_fit
 use Rattle.ledger.proofs.RecordLaws.{obeys, has-at, go-applied, applied_mono}
 use Rattle.meaning.specs.Book.{known, ready, Book, row}
 use Rattle.meaning.proofs.SettleLaws.{Ready, known-now, known-rise, ready-rise, new-gathered, settle-sound, log-from}
-use Rattle.meaning.proofs.SettleLaws.{log_or-gone, go-rise, counted-from, counted-now, counted-old, value-now, value-old}
+use Rattle.meaning.proofs.SettleLaws.{log_or-gone, go-rise, counted-from, counted-now, counted-old, value-now}
+use Rattle.meaning.proofs.SettleLaws.{value-old}
 use Rattle.meaning.proofs.SettleLaws.{value_least}
 use Rattle.meaning.specs.BookLaws.{Sound, applied-here}
 use Rattle.meaning.specs.Step.{settle}

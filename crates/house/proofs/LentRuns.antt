@@ -31,7 +31,8 @@ use Rattle.meaning.specs.Request.{Request, makes, step}
 use Rattle.meaning.specs.Step.{Outcome, open_stops, ask, send, gossip_step}
 use Rattle.lent.specs.SoundWords.{sound-lawful}
 use Rattle.lent.specs.Words.{book_long, book_of, words_of, lawful}
-use Rattle.promise.specs.Lent.{Entry, of_gossip, of_tap, of_question, reads, request_in, entry_on, Lent, prompt_in, label_in}
+use Rattle.promise.specs.Lent.{Entry, of_gossip, of_tap, of_question, reads, request_in, entry_on, Lent, prompt_in}
+use Rattle.promise.specs.Lent.{label_in}
 use Rattle.promise.specs.Lent.{question_on, gossip_on, put_front, send_on, open_or, open_on}
 use Rattle.promise.specs.LentLaws.{lent_of, book-back, entry-on, send-on}
 use Rattle.house.specs.Consent.{answer_at, Consent}

@@ -45,6 +45,7 @@ table =
     ∷ []
 
 pub records_practised : agrees table ≡ true
-unfolding first numbered owned table stamp_of knows is_known is_applied is_waiting everywhere may_go record_fits stamp_fits
+unfolding first numbered owned table stamp_of knows is_known is_applied is_waiting everywhere may_go record_fits
+    stamp_fits
     word unknowns remaining waiting_in
 records_practised = refl

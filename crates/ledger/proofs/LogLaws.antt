@@ -1,9 +1,11 @@
 -- Laws of the log: what is gathered, newly applied and left, and how many. Assumes nothing.
-use Rattle.std.specs.Prelude.{ℕ, ◌<◌, ◌≤◌, ◌+◌, suc, ◌≡◌, ◌⊎◌, not, ◌&&◌, Bool, true, false, ◌||◌, List, [], ◌∷◌, T, ltb, eqb, get_or, length}
+use Rattle.std.specs.Prelude.{ℕ, ◌<◌, ◌≤◌, ◌+◌, suc, ◌≡◌, ◌⊎◌, not, ◌&&◌, Bool, true, false, ◌||◌, List, [], ◌∷◌, T}
+use Rattle.std.specs.Prelude.{ltb, eqb, get_or, length}
 use Rattle.std.proofs.Common.{arith, ap, subst, sym, inr, inl, ltb→lt, nltb→le}
 use mathlib.Core.List.Memᴰ
 use Rattle.lists.specs.TestLaws.{there, here, ◌∈◌, keep_mem, mem-keep, not-from, and_l, both, either, tell, keep_le}
-use Rattle.lists.specs.TestLaws.{bit, keep-keep_le, keep_share, or_cases, all_below-at, all_below-from, or_l, or_r, and_r}
+use Rattle.lists.specs.TestLaws.{bit, keep-keep_le, keep_share, or_cases, all_below-at, all_below-from, or_l, or_r}
+use Rattle.lists.specs.TestLaws.{and_r}
 use Rattle.lists.specs.TestLaws.{none_in}
 use Rattle.lists.specs.Order.{rising, key_before}
 use Rattle.lists.proofs.Sorted.{Put, head-before, tail-rising, put_all, keep-rising}
@@ -132,7 +134,8 @@ few-newly s s' y y' rows new log rise known =
         )
 
 -- what must be there, number by number
-pub held_at : (n : ℕ) (s : Stamp) (rows : List Stamp) (log : List Record) → T (all_held n s rows log) → (k q : ℕ) → k < n
+pub held_at : (n : ℕ) (s : Stamp) (rows : List Stamp) (log : List Record) → T (all_held n s rows log) → (k q : ℕ)
+    → k < n
     → q < part s k → T (has log k (suc q)) ⊎ T (everywhere rows k (suc q))
 unfolding all_held
 held_at n s rows log t k q h l =

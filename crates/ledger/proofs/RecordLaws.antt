@@ -2,7 +2,8 @@
 use Rattle.std.specs.Prelude.{◌≤◌, ◌<◌, ℕ, ◌≡◌, not, ◌&&◌, Bool, List, [], T, leb, eqb, length, get_or}
 use Rattle.std.proofs.Common.{arith, subst, sym, leb→le, le→leb, eqb→eq, ltb→lt}
 use Rattle.std.proofs.Math.Dec.{nleb→lt}
-use Rattle.lists.specs.TestLaws.{and_l, and_r, both, every-get_or, get_or-every, ◌∈◌, exists-at, exists-from, given, either}
+use Rattle.lists.specs.TestLaws.{and_l, and_r, both, every-get_or, get_or-every, ◌∈◌, exists-at, exists-from, given}
+use Rattle.lists.specs.TestLaws.{either}
 use Rattle.lists.proofs.ElementLaws.{eq→eqb}
 use Rattle.limits.specs.Limits.{parts, word}
 use Rattle.stamp.specs.Laws.{Covers, at_most-parts, parts-at_most, Fits, fits, part_replaced, part_either, fits-replace}
@@ -56,7 +57,8 @@ module _ (s y : Stamp) (r : Record) where
 pub everywhere-at : (rows : List Stamp) (k q : ℕ) → T (everywhere rows k q) → (j : ℕ) → j < length rows
     → q ≤ part (get_or rows j []) k
 unfolding everywhere knows
-everywhere-at rows k q t j h = leb→le q (part (get_or rows j []) k) (every-get_or (λ row. leb q (part row k)) rows [] t j h)
+everywhere-at rows k q t j h = leb→le q (part (get_or rows j []) k)
+    (every-get_or (λ row. leb q (part row k)) rows [] t j h)
 
 pub everywhere-from : (rows : List Stamp) (k q : ℕ) → ((j : ℕ) → j < length rows → q ≤ part (get_or rows j []) k)
     → T (everywhere rows k q)

@@ -7,7 +7,8 @@
 --     store-lay    a number stored
 --     store-put    a word stored is a part of one word put
 --     put-counted  other words in a piece's place, and the number that counts them
-use Rattle.std.specs.Prelude.{ℕ, suc, ◌+◌, ◌≤◌, ◌<◌, ◌≡◌, refl, Bool, true, false, cond, eqb, length, get_or, set, take, drop}
+use Rattle.std.specs.Prelude.{ℕ, suc, ◌+◌, ◌≤◌, ◌<◌, ◌≡◌, refl, Bool, true, false, cond, eqb, length, get_or, set, take}
+use Rattle.std.specs.Prelude.{drop}
 use Rattle.std.proofs.Common.{arith, sym, ◌∙◌, eqb-true, length-take, drop-set-lt, get_or-take, get_or-drop, drop-drop}
 use Rattle.std.proofs.Math.Path.{ap}
 use mathlib.Core.List.{List, [], ◌∷◌, ◌++◌, map}

@@ -3,8 +3,10 @@
 --     row_words      a row of the table
 --     put-row        another in its place
 --     record-words   a record of the log, by its row
-use Rattle.std.specs.Prelude.{ℕ, zero, suc, ◌+◌, ◌-◌, ◌*◌, ◌≤◌, ◌<◌, ◌≡◌, List, [], ◌∷◌, ◌++◌, length, get_or, set, take, drop, replicate}
-use Rattle.std.proofs.Common.{zero-mul, suc-mul, arith, ap, ◌∙◌, append_assoc, length-set, length-take, length-drop, take-append-drop, drop_at, take-add, take-take, drop-drop, get_or-take, get_or-drop}
+use Rattle.std.specs.Prelude.{ℕ, zero, suc, ◌+◌, ◌-◌, ◌*◌, ◌≤◌, ◌<◌, ◌≡◌, List, [], ◌∷◌, ◌++◌, length, get_or, set}
+use Rattle.std.specs.Prelude.{take, drop, replicate}
+use Rattle.std.proofs.Common.{zero-mul, suc-mul, arith, ap, ◌∙◌, append_assoc, length-set, length-take, length-drop}
+use Rattle.std.proofs.Common.{take-append-drop, drop_at, take-add, take-take, drop-drop, get_or-take, get_or-drop}
 use Rattle.std.proofs.Math.Path.{refl, sym}
 use Rattle.std.proofs.Math.ListN.{get_or-map}
 use Rattle.std.proofs.lemmas.List.{drop-append-le}

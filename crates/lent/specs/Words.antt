@@ -1,6 +1,8 @@
 -- A book on a slice of numbers of one fixed length: its pieces, one after the other. Each content has one layout,
--- unused places zero. A new piece is a name, its tag, its entry in `piece_of` and its place in `order`. Assumes nothing.
-use Rattle.std.specs.Prelude.{ℕ, suc, ◌-◌, ◌*◌, Bool, true, ◌&&◌, cond, List, [], ◌∷◌, ◌++◌, map, eqb, leb, length, get_or, take, drop, replicate}
+-- unused places zero. A new piece is a name, its tag, its entry in `piece_of` and its place in `order`. Assumes
+-- nothing.
+use Rattle.std.specs.Prelude.{ℕ, suc, ◌-◌, ◌*◌, Bool, true, ◌&&◌, cond, List, [], ◌∷◌, ◌++◌, map, eqb, leb, length}
+use Rattle.std.specs.Prelude.{get_or, take, drop, replicate}
 use Rattle.lists.specs.Part.{mid}
 use Rattle.lists.specs.Pieces.{sum_of}
 use Rattle.lists.specs.Rows.{rows, flat}
@@ -11,7 +13,8 @@ use Rattle.book_log.specs.Region.{row_long, records_at, log_words}
 use Rattle.taps.specs.Region.{taps_at, tap_words}
 use Rattle.prompts.specs.Region.{prompt_words, standings_at, standing_words}
 use Rattle.meaning.specs.Book.{Book, sound}
-use Rattle.lent.specs.With.{no_book, with_me, with_screens, with_table, with_value, with_log, with_counted, with_prompts}
+use Rattle.lent.specs.With.{no_book, with_me, with_screens, with_table, with_value, with_log, with_counted}
+use Rattle.lent.specs.With.{with_prompts}
 
 -- the pieces' names: i, N, how many records the log has, how many taps are counted; the table, the value stamp, the
 -- log, the counted taps, the prompts

@@ -3,7 +3,8 @@
 --     words-book   words in shape are those of the book that they hold
 --     book-words   a book of the right shape is the one that its words hold
 --     words-shaped the words of such a book are in shape
-use Rattle.std.specs.Prelude.{ℕ, suc, ◌-◌, ◌*◌, ◌≤◌, ◌≡◌, List, [], ◌∷◌, ◌++◌, map, eqb, length, get_or, drop, replicate}
+use Rattle.std.specs.Prelude.{ℕ, suc, ◌-◌, ◌*◌, ◌≤◌, ◌≡◌, List, [], ◌∷◌, ◌++◌, map, eqb, length, get_or, drop}
+use Rattle.std.specs.Prelude.{replicate}
 use Rattle.std.proofs.Common.{arith, sym, ◌∙◌, append-nil, leb→le, le→leb, length-append, length-drop, drop_at}
 use Rattle.std.proofs.Math.Path.{refl, ap, subst}
 use Rattle.std.proofs.Math.Bool.{true}
@@ -22,7 +23,8 @@ use Rattle.tally.specs.Tap.{word_of}
 use Rattle.tally.specs.declared.Tap.{Tap}
 use Rattle.ledger.specs.Record.{Record}
 use Rattle.book_log.specs.Region.{row_long, row_of, records_at, log_words}
-use Rattle.book_log.specs.RegionLaws.{whole_label, wide-records, length-records, records-words, length-log, words-records}
+use Rattle.book_log.specs.RegionLaws.{whole_label, wide-records, length-records, records-words, length-log}
+use Rattle.book_log.specs.RegionLaws.{words-records}
 use Rattle.taps.specs.Region.{taps_at, tap_words}
 use Rattle.taps.specs.RegionLaws.{length-taps, length-words, taps-words, words-taps}
 use Rattle.prompts.specs.Region.{standings_at, standing_words}
@@ -204,7 +206,8 @@ module _ (b : Book) (s : Shape b) where
   all-kept : (ns : List Name) → T (all (map (λ n. (piece_of n).rule (λ m. piece m (words_of b))) ns))
   all-kept [] = tt
   all-kept (n ∷ ns) =
-      both ((piece_of n).rule (λ m. piece m (words_of b))) (all (map (λ k. (piece_of k).rule (λ m. piece m (words_of b))) ns))
+      both ((piece_of n).rule (λ m. piece m (words_of b)))
+      (all (map (λ k. (piece_of k).rule (λ m. piece m (words_of b))) ns))
       (subst T (λ i. (piece_of n).rule (λ m. sym (piece_back m) i)) (rules-kept n)) (all-kept ns)
 
   pub words-shaped : T (in_shape (words_of b))

@@ -1,6 +1,8 @@
 -- Laws: numbers that are equal or not, lists with an element replaced or put in, numbered lists. Assumes nothing.
-use Rattle.std.specs.Prelude.{ℕ, ◌≤◌, ◌+◌, zero, suc, ◌<◌, ◌≡◌, refl, ◌⊎◌, ◌≢◌, not, Bool, true, false, cond, ◌||◌, ◌&&◌, List, [], ◌∷◌, map, eqb, T, set, replicate, length, get_or}
-use Rattle.std.proofs.Common.{add-zero, suc-add, add-suc, arith, subst, ap, ap₂, sym, ◌∙◌, inl, inr, eqb→eq, get_or-set_same, get_or-set_other}
+use Rattle.std.specs.Prelude.{ℕ, ◌≤◌, ◌+◌, zero, suc, ◌<◌, ◌≡◌, refl, ◌⊎◌, ◌≢◌, not, Bool, true, false, cond, ◌||◌}
+use Rattle.std.specs.Prelude.{◌&&◌, List, [], ◌∷◌, map, eqb, T, set, replicate, length, get_or}
+use Rattle.std.proofs.Common.{add-zero, suc-add, add-suc, arith, subst, ap, ap₂, sym, ◌∙◌, inl, inr, eqb→eq}
+use Rattle.std.proofs.Common.{get_or-set_same, get_or-set_other}
 use mathlib.Core.List.Memᴰ
 use Rattle.std.proofs.Math.Option.{some, none}
 use Rattle.std.proofs.Math.Dec.{eqb_refl}

@@ -1,6 +1,7 @@
 -- Laws: lists kept in strictly rising order of a key: what inserting does, and that the members settle the list.
 -- Assumes nothing.
-use Rattle.std.specs.Prelude.{ℕ, ◌+◌, ◌≤◌, ◌<◌, ◌≡◌, refl, ◌⊎◌, Bool, true, false, not, ◌&&◌, cond, List, [], ◌∷◌, map, T, ltb, eqb, length}
+use Rattle.std.specs.Prelude.{ℕ, ◌+◌, ◌≤◌, ◌<◌, ◌≡◌, refl, ◌⊎◌, Bool, true, false, not, ◌&&◌, cond, List, [], ◌∷◌, map}
+use Rattle.std.specs.Prelude.{T, ltb, eqb, length}
 use Rattle.std.proofs.Common.{arith, sym, ap, ap₂, subst, ◌∙◌, inl, inr, ltb→lt, lt→ltb, eqb→eq, nltb→le}
 use mathlib.Core.List.Memᴰ
 use Rattle.std.proofs.Math.Dec.{eqb_refl}
@@ -170,7 +171,8 @@ module _ {A : Type 0} (key : A → List ℕ) where
   }
   put_all (x ∷ xs) ys = join (put_all xs ys) (put_one x (insert_all key xs ys))
     where
-      join : Put xs ys (insert_all key xs ys) → Put (x ∷ []) (insert_all key xs ys) (insert key x (insert_all key xs ys))
+      join : Put xs ys (insert_all key xs ys)
+          → Put (x ∷ []) (insert_all key xs ys) (insert key x (insert_all key xs ys))
           → Put (x ∷ xs) ys (insert key x (insert_all key xs ys))
       join a b =
           record {

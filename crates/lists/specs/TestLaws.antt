@@ -1,5 +1,6 @@
 -- Laws: tests over lists as facts, and facts as tests. Assumes nothing.
-use Rattle.std.specs.Prelude.{ℕ, zero, suc, ◌+◌, ◌-◌, ◌≤◌, ◌<◌, ◌≡◌, refl, ◌⊎◌, Bool, true, false, not, ◌&&◌, ◌||◌, cond, T, ltb, length, get_or}
+use Rattle.std.specs.Prelude.{ℕ, zero, suc, ◌+◌, ◌-◌, ◌≤◌, ◌<◌, ◌≡◌, refl, ◌⊎◌, Bool, true, false, not, ◌&&◌, ◌||◌}
+use Rattle.std.specs.Prelude.{cond, T, ltb, length, get_or}
 use Rattle.std.proofs.Common.{not-suc-le-zero, arith, sym, ap, subst, ◌∙◌, inl, inr, ltb→lt, nltb→le}
 use mathlib.Core.List.Memᴰ
 use mathlib.Core.List.{List, [], ◌∷◌, flat_map, Memᴰ}
@@ -126,7 +127,8 @@ all_below-at (suc n) p t k h =
 
 pub all_below-from : (n : ℕ) (p : ℕ → Bool) → ((k : ℕ) → k < n → T (p k)) → T (all_below n p)
 all_below-from zero p f = tt
-all_below-from (suc n) p f = both (p n) (all_below n p) (f n (omega arith)) (all_below-from n p (λ k h. f k (omega arith)))
+all_below-from (suc n) p f = both (p n) (all_below n p) (f n (omega arith))
+    (all_below-from n p (λ k h. f k (omega arith)))
 
 -- the tests below a number, from the last
 pub below_last : (p : ℕ → Bool) (k : ℕ) → 0 < k → all_below k p ≡ (p (k - 1) && all_below (k - 1) p)

@@ -67,7 +67,8 @@ module _ {ready low : Stamp} {n : ℕ} {r₀ r : List ℕ} {kept i : ℕ} (c : C
   rest-on : drop ((i + 1) * row_long) r ≡ drop ((i + 1) * row_long) r₀
   rest-on =
       let e : (i + 1) * row_long ≡ i * row_long + row_long = omega arith in
-      rw e (sym (drop-drop row_long (i * row_long) r) ∙ ap (drop row_long) c.rest ∙ drop-drop row_long (i * row_long) r₀)
+      rw e (sym (drop-drop row_long (i * row_long) r) ∙ ap (drop row_long) c.rest
+      ∙ drop-drop row_long (i * row_long) r₀)
 
   goes_on :
       i < n → goes_by ready low (row_record r (i * row_long)) ≡ true
@@ -82,7 +83,8 @@ module _ {ready low : Stamp} {n : ℕ} {r₀ r : List ℕ} {kept i : ℕ} (c : C
   stays_on h e = rw (ahead h, e)
 
   -- the i-th row goes
-  pub closing-off : i < n → goes_by ready low (row_record r (i * row_long)) ≡ true → Closing ready low n r₀ r kept (i + 1)
+  pub closing-off : i < n → goes_by ready low (row_record r (i * row_long)) ≡ true
+      → Closing ready low n r₀ r kept (i + 1)
   closing-off h e =
       let f = c.fewer in
       record {

@@ -45,7 +45,8 @@ pub behind-none : (row r : List ℕ) (i : ℕ) → Behind row r i i
 behind-none row r i = record { within = omega arith; after = rw (records-none i r i (i * row_long) (omega arith)) tt }
 
 module _ {row r : List ℕ} {i n : ℕ} (b : Behind row r i n) where
-  pub behind_more : (k : ℕ) → n ≡ k + 1 → key_before (place (record_at row)) (place (row_record r (k * row_long))) ≡ true
+  pub behind_more : (k : ℕ) → n ≡ k + 1 → key_before (place (record_at row)) (place (row_record r (k * row_long)))
+      ≡ true
       → Behind row r i k
   behind_more k e t =
       let m : n * row_long ≡ k * row_long + row_long = omega arith in
@@ -62,7 +63,8 @@ module _ {row r : List ℕ} {i n : ℕ} (b : Behind row r i n) where
         after = sym (ap (after_of (record_at row)) s ∙ w.1);
       }
     where
-      passes : (z : Record) → z ∈ records_from i r n (n * row_long) → key_before (place (record_at row)) (place z) ≡ true
+      passes : (z : Record) → z ∈ records_from i r n (n * row_long) → key_before (place (record_at row)) (place z)
+          ≡ true
       passes z m =
           is_true (key_before (place (record_at row)) (place z))
           (every-at (λ a. key_before (place (record_at row)) (place a)) (records_from i r n (n * row_long)) b.after
@@ -75,7 +77,8 @@ module _ {row r : List ℕ} {i n : ℕ} (b : Behind row r i n) where
       let s : records_at n r ≡ records_at k r ++ (a ∷ []) = rw e (records_snoc k r) in
       let o' = rising-front place (records_at n r) (records_from i r n (n * row_long))
       (subst (λ (l : List Record). T (rising place l)) (records-split i n r b.within) o) in
-      parts (λ z m. none_after (record_at row) a (records_at k r) (subst (λ (l : List Record). T (rising place l)) s o') t
+      parts (λ z m. none_after (record_at row) a (records_at k r)
+      (subst (λ (l : List Record). T (rising place l)) s o') t
       z (subst (λ (l : List Record). z ∈ l) s m))
 
   pub behind-all : n ≡ 0 → Parted i row r n
@@ -138,7 +141,8 @@ module _ {from to by : ℕ} {r₀ r : List ℕ} {j : ℕ} (s : Shifting from to 
 pub slid :
     (i gap n : ℕ) (row old m new : List ℕ) → 1 ≤ gap → (i + gap) * row_long ≤ length old → length row ≡ row_long
     → Parted i row old n
-    → Shifted (n * row_long) (i * row_long) (gap * row_long) old m → new ≡ patch ((n + (gap - 1)) * row_long) row_long m row
+    → Shifted (n * row_long) (i * row_long) (gap * row_long) old m → new
+    ≡ patch ((n + (gap - 1)) * row_long) row_long m row
     → Slid i gap row old new n
 slid i gap n row old m new g h long p s e =
     let f = p.fewer in

@@ -7,7 +7,8 @@
 --     words-after    the words of the rows from the n-th up to the i-th
 --     take-before    the words before a part that is put
 use Rattle.std.specs.Prelude.{ℕ, zero, suc, ◌+◌, ◌-◌, ◌*◌, ◌≤◌, ◌≡◌, refl, List, [], ◌∷◌, ◌++◌, map, length, take, drop}
-use Rattle.std.proofs.Common.{arith, sym, ap, ap₂, ◌∙◌, length-drop, take-append-drop, length-take-le, drop-drop, take-add}
+use Rattle.std.proofs.Common.{arith, sym, ap, ap₂, ◌∙◌, length-drop, take-append-drop, length-take-le, drop-drop}
+use Rattle.std.proofs.Common.{take-add}
 use Rattle.std.proofs.lemmas.List.{take-append-le, drop-append-le}
 use Rattle.lists.specs.Part.{mid, patch, mid-patch-before}
 use Rattle.lists.specs.Rows.{rows, flat}
@@ -27,7 +28,8 @@ records_add (suc n) m l =
     rw (e, f, ← drop-drop (n * row_long) row_long l)
     (ap (λ (rs : List Record). record_at (take row_long l) ∷ rs) (records_add n m (drop row_long l)))
 
-pub records-split : (i n : ℕ) (l : List ℕ) → n ≤ i → records_at i l ≡ records_at n l ++ records_from i l n (n * row_long)
+pub records-split : (i n : ℕ) (l : List ℕ) → n ≤ i → records_at i l ≡ records_at n l
+    ++ records_from i l n (n * row_long)
 unfolding records_from
 records-split i n l h =
     let e : i ≡ n + (i - n) = omega arith in

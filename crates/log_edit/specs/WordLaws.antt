@@ -91,7 +91,8 @@ module _ (room : ℕ) (rs : List Record) (eight : T (every whole_label rs)) wher
       let zeros = replicate {A = ℕ} ((room - length rs) * row_long) 0 in
       let b : length f + length zeros ≡ room * row_long = sym (length-append f zeros)
       ∙ length-log room rs eight (omega arith) in
-      let c : length zeros ≡ (room - length rs) * row_long = length-replicate {A = ℕ} ((room - length rs) * row_long) 0 in
+      let c : length zeros ≡ (room - length rs) * row_long = length-replicate {A = ℕ} ((room - length rs) * row_long)
+      0 in
       let a : (length rs + m) * row_long ≡ length f + m * row_long = omega arith in
       let s : (room - length rs) * row_long ≡ m * row_long + (room - (length rs + m)) * row_long = omega arith in
       rw a (drop-append-add f zeros (m * row_long)

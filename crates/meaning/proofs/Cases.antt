@@ -39,9 +39,12 @@ message j n s rs = record { sender = j; screens = n; stamp = s; records = rs }
 -- what a step says; who unfolds this computes with all that the steps are made of
 unfoldable pub says : Outcome → List ℕ
 unfolding word zeros stamp_fits front_ends serials prompt_count showings accept decline same_tap tap_fits body_word
-    body_of body_fits taps_in among one_if noted count of_prompt how_many standing_of standing afresh unasked accepted declined
-    contested verdict_of fewest most log_room book_room in_range message_fits stamp_of knows is_known is_applied is_waiting
-    everywhere may_go has record_fits unknowns gathered ready_stamp newly_applied remaining waiting_in all_held gapless row
+    body_of body_fits taps_in among one_if noted count of_prompt how_many standing_of standing afresh unasked accepted
+    declined
+    contested verdict_of fewest most log_room book_room in_range message_fits stamp_of knows is_known is_applied
+    is_waiting
+    everywhere may_go has record_fits unknowns gathered ready_stamp newly_applied remaining waiting_in all_held
+    gapless row
     known ready standing_at waiting fresh holds counted_in clauses sound now_ready now_applied taps_of now_noted
     settle new_record own_rows take_book tap_stops tap_step ask_stops answer_of ask send new_ones gossip_rows hear_book
     gossip_stops gossip_step flat_map

@@ -11,7 +11,8 @@ use Rattle.std.proofs.Math.Option.{Option, some, none}
 use Rattle.std.proofs.Math.Dec.{T, nleb→lt, lt→ltb, le→leb, eqb_refl}
 use Rattle.std.proofs.Math.ListN.{length-set}
 use Rattle.std.proofs.Math.Seq.{get_or-set_same}
-use Rattle.lists.specs.TestLaws.{here, not-not, and_l, and_r, passed, first_of-none, either, all_from, ◌also◌, done, ◌∈◌}
+use Rattle.lists.specs.TestLaws.{here, not-not, and_l, and_r, passed, first_of-none, either, all_from, ◌also◌, done}
+use Rattle.lists.specs.TestLaws.{◌∈◌}
 use Rattle.lists.specs.TestLaws.{none_in, tell, clash, not_and, first_of-some}
 use Rattle.lists.proofs.ElementLaws.{first_passes, set_either, every_set, nor_l, nor-r}
 use Rattle.lists.specs.Order.{rising}
@@ -36,7 +37,8 @@ use Rattle.meaning.specs.Book.{Book, sound, known, row, fresh}
 use Rattle.meaning.specs.BookLaws.{Sound, sound-at, me-row, me_in, known-fits, row-me, at-sound, fresh-sound}
 use Rattle.meaning.specs.Reply.{Reply, is_taken}
 use Rattle.meaning.proofs.SettleLaws.{Ready, settle-sound}
-use Rattle.meaning.specs.Step.{Outcome, stop_or, new_record, own_rows, take_book, take_out, tap_stops, tap_step, new_ones}
+use Rattle.meaning.specs.Step.{Outcome, stop_or, new_record, own_rows, take_book, take_out, tap_stops, tap_step}
+use Rattle.meaning.specs.Step.{new_ones}
 use Rattle.meaning.specs.Step.{gossip_rows, hear_book, hear_out, gossip_stops, gossip_step, open_stops}
 use Rattle.meaning.specs.Done.{Unheld, TakeDone, GossipDone}
 
@@ -79,7 +81,8 @@ tap_cases b t l = go (first_of (tap_stops b t l)) refl
     go :
         (o : Option Reply) → first_of (tap_stops b t l) ≡ o
         → Stopped b (stop_or b (take_out b (says t) l) (first_of (tap_stops b t l)))
-        ⊎ (TakeDone b (says t) l × (stop_or b (take_out b (says t) l) (first_of (tap_stops b t l)) ≡ take_out b (says t) l))
+        ⊎ (TakeDone b (says t) l × (stop_or b (take_out b (says t) l) (first_of (tap_stops b t l))
+        ≡ take_out b (says t) l))
     go (some r) e =
         let untaken = first_passes (λ x. not (is_taken x)) (tap_stops b t l) tt r e in
         inl (r, untaken, ap (stop_or b (take_out b (says t) l)) e)
@@ -113,7 +116,8 @@ module _ (b : Book) (x : Body) (l : Stamp) (d : TakeDone b x l) where
       either (part_either (known b) b.me (suc (part (known b) b.me)) k)
       (λ e. omega (arith, e.1, ap (λ (j : ℕ). part (known b) j) e.0)) (λ e. omega (arith, e))
 
-  pub own_row : (j : ℕ) → ((j ≡ b.me) × (get_or (own_rows b) j [] ≡ next_known b)) ⊎ (get_or (own_rows b) j [] ≡ row b j)
+  pub own_row : (j : ℕ) → ((j ≡ b.me) × (get_or (own_rows b) j [] ≡ next_known b))
+      ⊎ (get_or (own_rows b) j [] ≡ row b j)
   unfolding own_rows row
   own_row j = set_either b.table b.me (next_known b) j [] (me-row b d.sound-before)
 

@@ -1,9 +1,11 @@
 -- Laws: a sound book, clause by clause; the fresh book is sound, and what a sound book sends is readable. Assumes
 -- nothing.
-use Rattle.std.specs.Prelude.{◌≤◌, ℕ, ◌<◌, suc, ◌+◌, zero, ◌≡◌, refl, ◌⊎◌, Bool, not, ◌||◌, [], List, T, leb, length, get_or, replicate}
+use Rattle.std.specs.Prelude.{◌≤◌, ℕ, ◌<◌, suc, ◌+◌, zero, ◌≡◌, refl, ◌⊎◌, Bool, not, ◌||◌, [], List, T, leb, length}
+use Rattle.std.specs.Prelude.{get_or, replicate}
 use Rattle.std.proofs.Common.{arith, ap, subst, ◌∙◌, eqb→eq, leb→le, le→leb}
 use Rattle.std.proofs.lemmas.List.{length-replicate}
-use Rattle.lists.specs.TestLaws.{◌∈◌, every-at, every-get_or, if-then, given, all_from, ◌also◌, every-from, get_or-every}
+use Rattle.lists.specs.TestLaws.{◌∈◌, every-at, every-get_or, if-then, given, all_from, ◌also◌, every-from}
+use Rattle.lists.specs.TestLaws.{get_or-every}
 use Rattle.lists.specs.TestLaws.{then_if, done, none_in, get_or_in}
 use Rattle.lists.proofs.ElementLaws.{eq→eqb, every-replicate}
 use Rattle.lists.specs.Order.{rising}

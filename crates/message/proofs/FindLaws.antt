@@ -10,7 +10,8 @@ use Prim.Native.Nat.{ℕ, ◌+◌, ◌-◌, ◌*◌, ◌≤◌}
 use native.Mathlib.Omega.{arith}
 use Rattle.std.specs.Prelude.{◌≡◌, refl, Bool, true, false, cond, drop}
 use Rattle.std.proofs.Math.Path.{sym, ap, ap₂, subst}
-use Rattle.std.proofs.Common.{◌∙◌, length-append, length-drop, take-append-drop, drop_of_length-le, take_at, drop_at, eq-eqb, ne_eqb}
+use Rattle.std.proofs.Common.{◌∙◌, length-append, length-drop, take-append-drop, drop_of_length-le, take_at, drop_at}
+use Rattle.std.proofs.Common.{eq-eqb, ne_eqb}
 use mathlib.Core.List.{List, [], ◌∷◌, ◌++◌, map, append_assoc, append-nil}
 use Rattle.std.proofs.Math.Dec.{T, eqb, ltb}
 use Rattle.std.proofs.Math.ListN.{length, take}
@@ -164,7 +165,8 @@ module _ (bytes : List ℕ) (w : T (well_formed bytes)) where
 
     pub none_found : place_for o (record_parts bytes) ≡ place_for (o + 1) (record_parts bytes) → records_of o bytes ≡ []
     unfolding mid
-    none_found e = let z : place_for (o + 1) (record_parts bytes) - place_for o (record_parts bytes) ≡ 0 = omega arith in
+    none_found e = let z : place_for (o + 1) (record_parts bytes) - place_for o (record_parts bytes)
+        ≡ 0 = omega arith in
         sym found ∙ rw z
 
     pub start-some : (place_for o (record_parts bytes) ≡ place_for (o + 1) (record_parts bytes) → ⊥)

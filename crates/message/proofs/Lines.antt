@@ -21,7 +21,8 @@ use Rattle.message.specs.Message.{parts_of, in_order, well_formed, read_gossip}
 use Rattle.message.specs.Parts.{head-rules}
 use Rattle.message.specs.Told.{head_in, head-count}
 
-pub headless : (bytes : List ℕ) → readable head_kind (take head_long bytes) ≡ false → said.Unreadable 1 ≡ read_gossip bytes
+pub headless : (bytes : List ℕ) → readable head_kind (take head_long bytes) ≡ false → said.Unreadable 1
+    ≡ read_gossip bytes
 unfolding read_gossip well_formed
 headless bytes e = rw e
 

@@ -76,7 +76,8 @@ map_twice f g (x ∷ xs) = ap (λ l. f (g x) ∷ l) (map_twice f g xs)
 module _ (bytes : List ℕ) where
   pub length-records : length (records_in bytes) ≡ count_in bytes
   unfolding records_in
-  length-records = length-map (record_parts bytes) (record_from (records_kind bytes)) ∙ length-parts (count_in bytes) bytes
+  length-records = length-map (record_parts bytes) (record_from (records_kind bytes))
+      ∙ length-parts (count_in bytes) bytes
 
   module _ (w : T (well_formed bytes)) where
     readables : T (every (readable (records_kind bytes)) (record_parts bytes))
@@ -282,7 +283,8 @@ module _ (bytes : List ℕ) (b : Bytes bytes) (w : T (well_formed bytes)) where
       ∙ sym (whole-bytes bytes w)
 
 pub well_exactly : (bytes : List ℕ) → Bytes bytes
-    → well_formed bytes ≡ (message_fits body_fits (message_of bytes) && same_key (message_bytes (message_of bytes)) bytes)
+    → well_formed bytes ≡ (message_fits body_fits (message_of bytes)
+    && same_key (message_bytes (message_of bytes)) bytes)
 well_exactly bytes b =
     let fits = message_fits body_fits (message_of bytes) in
     let same = same_key (message_bytes (message_of bytes)) bytes in
@@ -293,7 +295,8 @@ well_exactly bytes b =
     (same_key→≡ (message_bytes (message_of bytes)) bytes (and_r fits same t))
     (bytes_well (message_of bytes) (and_l fits same t)))
 
-pub one-message : (a b : List ℕ) → Bytes a → Bytes b → T (well_formed a) → T (well_formed b) → message_of a ≡ message_of b
+pub one-message : (a b : List ℕ) → Bytes a → Bytes b → T (well_formed a) → T (well_formed b) → message_of a
+    ≡ message_of b
     → a ≡ b
 one-message a b p q v w e = sym (bytes-message a p v) ∙ ap message_bytes e ∙ bytes-message b q w
 

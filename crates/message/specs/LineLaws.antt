@@ -27,7 +27,8 @@ use Rattle.ledger.specs.LimitLaws.{range-me, range-most}
 use Rattle.ledger.specs.Message.{Message, in_range, message_rules, message_fits}
 use Rattle.ledger.specs.Record.{Record, record_fits, knows, is_known}
 use Rattle.ledger.proofs.RecordLaws.{obeys}
-use Rattle.wire.specs.Kinds.{Kind, head_kind, record_kind, record_in, stamp_at, stamp_body, tap_body, head_body, record_body}
+use Rattle.wire.specs.Kinds.{Kind, head_kind, record_kind, record_in, stamp_at, stamp_body, tap_body, head_body}
+use Rattle.wire.specs.Kinds.{record_body}
 use Rattle.wire.proofs.Laws.{Lawful, figures-read, lawful_record}
 use Rattle.wire.specs.Read.{line_of, readable, read_as}
 use Rattle.wire.specs.Said.{figures}

@@ -14,7 +14,8 @@ tag_in v = denote.Enum.Declared.tag_of Rattle.wire.specs.contracts.Said.the_type
 abbrev others_than : ℕ → List ℕ
 others_than n = keep (λ k. not (eqb k n)) (numbers 0 said_cases)
 
-pub not-this : (v w : Said) → OneOf (others_than (tag_in w)) (tag_in v) → T (not (has_key (others_than (tag_in w)) (tag_in w)))
+pub not-this : (v w : Said) → OneOf (others_than (tag_in w)) (tag_in v)
+    → T (not (has_key (others_than (tag_in w)) (tag_in w)))
     → v ≢ w
 not-this v w h t q = miss (others_than (tag_in w)) (tag_in w) t
     (subst (OneOf (others_than (tag_in w))) (ap (λ (x : Said). tag_in x) q) h)

@@ -22,13 +22,15 @@ module _ (bytes : List ℕ) (w : T (well_formed bytes)) where
   pub well-head : T (readable head_kind (take head_long bytes))
   unfolding well_formed
   well-head = and_l (readable head_kind (take head_long bytes))
-      (eqb (length bytes) (head_long + count_in bytes * record_long) && in_order (records_kind bytes) (record_parts bytes)) w
+      (eqb (length bytes) (head_long + count_in bytes * record_long)
+      && in_order (records_kind bytes) (record_parts bytes)) w
 
   later : T (eqb (length bytes) (head_long + count_in bytes * record_long)
       && in_order (records_kind bytes) (record_parts bytes))
   unfolding well_formed
   later = and_r (readable head_kind (take head_long bytes))
-      (eqb (length bytes) (head_long + count_in bytes * record_long) && in_order (records_kind bytes) (record_parts bytes)) w
+      (eqb (length bytes) (head_long + count_in bytes * record_long)
+      && in_order (records_kind bytes) (record_parts bytes)) w
 
   pub well-long : length bytes ≡ head_long + count_in bytes * record_long
   well-long = eqb→eq (length bytes) (head_long + count_in bytes * record_long)

@@ -1,7 +1,8 @@
 -- Laws of a row of fields, once over the list of widths: reading gives back what was written, and writing what was
 -- read. Assumes nothing.
 use Rattle.std.specs.Prelude.{ℕ, suc, ◌+◌, ◌<◌, ◌^◌, ◌≡◌, refl, List, [], ◌∷◌, ◌++◌, T, ltb, length, take, drop}
-use Rattle.std.proofs.Common.{arith, ap, ap₂, subst, ◌∙◌, ltb→lt, lt→ltb, length-append, length-drop, take-append-drop, take_at, drop_at, length-take-le}
+use Rattle.std.proofs.Common.{arith, ap, ap₂, subst, ◌∙◌, ltb→lt, lt→ltb, length-append, length-drop, take-append-drop}
+use Rattle.std.proofs.Common.{take_at, drop_at, length-take-le}
 use Rattle.std.proofs.lemmas.List.{take-append-le, drop-append-le}
 use Rattle.lists.specs.TestLaws.{and_l, and_r, both}
 use Rattle.stamp.specs.Stamp.{total}

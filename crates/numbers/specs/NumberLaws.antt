@@ -1,7 +1,9 @@
 -- Laws of big-endian numbers, over any width: the two round trips, the bounds, and the bytes of a part. Assumes
 -- nothing.
-use Rattle.std.specs.Prelude.{ℕ, zero, suc, ◌+◌, ◌*◌, ◌/◌, ◌%◌, ◌^◌, ◌<◌, ◌≡◌, refl, List, [], ◌∷◌, ◌++◌, length, take, drop}
-use Rattle.std.proofs.Common.{pow-suc, suc-add, add-suc, zero-add, add-zero, arith, sym, ap, ◌∙◌, append_assoc, append-nil, length-append}
+use Rattle.std.specs.Prelude.{ℕ, zero, suc, ◌+◌, ◌*◌, ◌/◌, ◌%◌, ◌^◌, ◌<◌, ◌≡◌, refl, List, [], ◌∷◌, ◌++◌, length, take}
+use Rattle.std.specs.Prelude.{drop}
+use Rattle.std.proofs.Common.{pow-suc, suc-add, add-suc, zero-add, add-zero, arith, sym, ap, ◌∙◌, append_assoc}
+use Rattle.std.proofs.Common.{append-nil, length-append}
 use Rattle.numbers.specs.Number.{number_from, number_of, bytes_of, Bytes}
 
 pub length-bytes : (w n : ℕ) → length (bytes_of w n) ≡ w

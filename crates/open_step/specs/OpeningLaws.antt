@@ -32,7 +32,8 @@ module _ (ws : List ℕ) (i n : ℕ) where
     out_of_range f = subst (λ (o : Opened). Opens o (says.Refused 2) ws) (sym (by_tests true false e f))
         (record { answers = refl; leaves = refl })
 
-    pub opens : in_range i n ≡ true → (new : List ℕ) → new ≡ words_of (fresh i n) → Opens (open_on ws i n) says.Opened new
+    pub opens : in_range i n ≡ true → (new : List ℕ) → new ≡ words_of (fresh i n)
+        → Opens (open_on ws i n) says.Opened new
     opens f new q = subst (λ (o : Opened). Opens o says.Opened new) (sym (by_tests true true e f))
         (record { answers = refl; leaves = q })
 

@@ -3,7 +3,8 @@
 --     turn-told    the same of the turn that was given, where nothing is still to come
 --     read-within, say-within, last_within   what a turn asks for and says is within what is lent
 --     one-turn     two turns that both meet the promise are equal
-use Rattle.std.specs.Prelude.{ℕ, ◌≤◌, ◌<◌, ◌≡◌, Bool, true, false, cond, ◌&&◌, List, [], ◌∷◌, ◌++◌, T, length, take, drop}
+use Rattle.std.specs.Prelude.{ℕ, ◌≤◌, ◌<◌, ◌≡◌, Bool, true, false, cond, ◌&&◌, List, [], ◌∷◌, ◌++◌, T, length, take}
+use Rattle.std.specs.Prelude.{drop}
 use Rattle.std.proofs.Common.{arith, sym, ap, ap₂, subst, ◌∙◌, append-nil, eqb-true, length-append, length-take-le}
 use Rattle.std.proofs.Math.Path.{refl}
 use Rattle.std.proofs.Math.Option.{Option, none, some}

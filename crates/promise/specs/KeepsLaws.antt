@@ -68,7 +68,8 @@ module _ (e : Entry) (ws bytes : List ℕ) where
 
   by-stops :
       entry_on e ws bytes
-      ≡ comes ws (outcome (book_of ws) asks) (lawful ws) (reads e (book_of ws) bytes) (first_of (stops (book_of ws) asks))
+      ≡ comes ws (outcome (book_of ws) asks) (lawful ws) (reads e (book_of ws) bytes)
+      (first_of (stops (book_of ws) asks))
   by-stops =
       ap (λ (o : Outcome). on_book ws (heard (reads e (book_of ws) bytes) (book_of ws) o)) (step_by (book_of ws) asks)
 
@@ -83,7 +84,8 @@ module _ (e : Entry) (ws bytes : List ℕ) where
   entry-clear : entry_stop e ws bytes ≡ none → entry_on e ws bytes ≡ lent_of (outcome (book_of ws) asks)
   entry-clear s =
       by-stops
-      ∙ clear ws (outcome (book_of ws) asks) (lawful ws) (reads e (book_of ws) bytes) (first_of (stops (book_of ws) asks)) s
+      ∙ clear ws (outcome (book_of ws) asks) (lawful ws) (reads e (book_of ws) bytes)
+      (first_of (stops (book_of ws) asks)) s
 
 -- Tap
 module _ (ws bytes : List ℕ) where
@@ -99,13 +101,15 @@ module _ (ws bytes : List ℕ) where
 
   -- a tap that is not taken, refused or there already, changes no word
   pub tap-keeps : T (not (is_taken (tap_on ws bytes).reply)) → (tap_on ws bytes).words ≡ ws
-  tap-keeps n = not_done ws (tap_on ws bytes) (is_taken (tap_on ws bytes).reply) (tap_stop ws bytes) tap-stopped tap-clear
+  tap-keeps n = not_done ws (tap_on ws bytes) (is_taken (tap_on ws bytes).reply) (tap_stop ws bytes) tap-stopped
+      tap-clear
       n
 
 -- Gossip
 module _ (ws bytes : List ℕ) where
   -- what stops gossip is the answer, and no word changes
-  pub gossip-stopped : (r : Reply) → gossip_stop ws bytes ≡ some r → gossip_on ws bytes ≡ record { reply = r; words = ws }
+  pub gossip-stopped : (r : Reply) → gossip_stop ws bytes ≡ some r → gossip_on ws bytes
+      ≡ record { reply = r; words = ws }
   unfolding gossip_stop gossip_on
   gossip-stopped = entry-stopped of_gossip ws bytes
 

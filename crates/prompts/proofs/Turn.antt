@@ -30,7 +30,8 @@ module _ (taps : List ℕ) (n i : ℕ) (room : n ≤ length taps) where
   pub noted_more : i < n → rest_afresh taps n i ≡ noted_at (tap_of (get_or taps i 0)) (rest_afresh taps n (i + 1))
   noted_more h =
       let w = get_or taps i 0 in
-      rw (first_rest taps n i room h) (afresh-first (tap_of w) (map tap_of (drop (i + 1) (take n taps))) (prompt-word w))
+      rw (first_rest taps n i room h)
+      (afresh-first (tap_of w) (map tap_of (drop (i + 1) (take n taps))) (prompt-word w))
 
   pub noted-fits : (p : ℕ) → p < prompt_count → n < count_limit → CountsFit (get_or (rest_afresh taps n i) p blank)
   noted-fits p h few =
@@ -44,7 +45,8 @@ module _ (a b : List ℕ) (i : ℕ) (ha : i < length a) (hb : i < length b) wher
       ≡ (eqb (get_or a i 0) (get_or b i 0) && same_key (drop (i + 1) a) (drop (i + 1) b))
   same_step = rw (rest a i ha, rest b i hb)
 
-  pub same-on : get_or a i 0 ≡ get_or b i 0 → same_key (drop i a) (drop i b) ≡ same_key (drop (i + 1) a) (drop (i + 1) b)
+  pub same-on : get_or a i 0 ≡ get_or b i 0 → same_key (drop i a) (drop i b)
+      ≡ same_key (drop (i + 1) a) (drop (i + 1) b)
   same-on e = same_step ∙ rw (eq-eqb _ _ e)
 
   pub same-off : (get_or a i 0 ≡ get_or b i 0 → ⊥) → same_key (drop i a) (drop i b) ≡ false

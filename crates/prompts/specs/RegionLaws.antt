@@ -1,6 +1,7 @@
 -- Laws of the prompts' words: standings and words give each other back, and what noting a tap comes to. Assumes
 -- nothing.
-use Rattle.std.specs.Prelude.{ℕ, zero, suc, ◌+◌, ◌*◌, ◌<◌, ◌≡◌, refl, Bool, true, false, ◌&&◌, List, [], ◌∷◌, map, eqb, length, take, drop, get_or, set, replicate}
+use Rattle.std.specs.Prelude.{ℕ, zero, suc, ◌+◌, ◌*◌, ◌<◌, ◌≡◌, refl, Bool, true, false, ◌&&◌, List, [], ◌∷◌, map, eqb}
+use Rattle.std.specs.Prelude.{length, take, drop, get_or, set, replicate}
 use Rattle.std.proofs.Common.{add-zero, arith, sym, ap, ◌∙◌, length-set, get_or-take, get_or-drop}
 use Rattle.std.proofs.lemmas.List.{length-map}
 use Rattle.std.proofs.Math.ListN.{get_or-map}
@@ -48,7 +49,8 @@ words_standings r h = words prompt_count r (h ∙ sym long)
 
 pub length_standings : (r : List ℕ) → length (standings_at r) ≡ prompt_count
 unfolding standings_at
-length_standings r = length-map (rows standing_long prompt_count r) standing_in ∙ length-rows standing_long prompt_count r
+length_standings r = length-map (rows standing_long prompt_count r) standing_in
+    ∙ length-rows standing_long prompt_count r
 
 length-cells : (ss : List Standing) → length (flat (map counts ss)) ≡ length ss * standing_long
 unfolding flat

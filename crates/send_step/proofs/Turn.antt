@@ -16,7 +16,6 @@ use Rattle.tally.specs.Body.{body_fits}
 use Rattle.tally.specs.Tap.{fields, tap_of}
 use Rattle.tally.specs.declared.Tap.{Tap}
 use Rattle.ledger.specs.Message.{message_fits}
-use Rattle.ledger.specs.Record.{Record}
 use Rattle.book_log.specs.Region.{row_long, record_at, body_place}
 use Rattle.wire.specs.Kinds.{Kind, size_of, head_kind, record_kind, head_long, record_long}
 use Rattle.wire.proofs.Returns.{meets}
@@ -39,13 +38,15 @@ use Rattle.send_step.specs.Long.{record-long, whole-message, next_record, no_rec
 use Rattle.send_step.specs.Parts.{start_at, record_bytes, with_head, with_records}
 
 -- a line that a writer takes, where there is room for it
-wrote-line : (k : Kind) (line out : List ℕ) (a : Written) (bytes : List ℕ) → T (writable k line) → size_of k ≤ length out
+wrote-line : (k : Kind) (line out : List ℕ) (a : Written) (bytes : List ℕ) → T (writable k line)
+    → size_of k ≤ length out
     → Meets (write_as k line out) a bytes → bytes ≡ written k line ++ drop (size_of k) out
 unfolding write_as
 wrote-line k line out a bytes w h m = m.leaves ∙ rw (is_true (writable k line) w, le-ltb (length out) (size_of k) h)
 
 -- a row's line, and what is left where its part has just the room
-module _ (row : List ℕ) (n : ℕ) (m label : Parts) (tap : Tap) (long : length row ≡ row_long) (e : label ≡ parts_at 2 row)
+module _ (row : List ℕ) (n : ℕ) (m label : Parts) (tap : Tap) (long : length row ≡ row_long)
+    (e : label ≡ parts_at 2 row)
     (f : tap ≡ tap_of (get_or row body_place 0)) where
   row_line : figures (said.Record (get_or row 0 0) (get_or row 1 0) label tap) ≡ line_for (record_at row)
   unfolding line_for
@@ -57,7 +58,8 @@ module _ (row : List ℕ) (n : ℕ) (m label : Parts) (tap : Tap) (long : length
   pub wrote-row :
       (out : List ℕ) (a : Written) (bytes : List ℕ) → length out ≡ record_long
       → T (writable (record_kind n (list_of m)) (line_for (record_at row)))
-      → Meets (write_as (record_kind n (list_of m)) (figures (said.Record (get_or row 0 0) (get_or row 1 0) label tap)) out) a
+      → Meets (write_as (record_kind n (list_of m))
+      (figures (said.Record (get_or row 0 0) (get_or row 1 0) label tap)) out) a
       bytes
       → bytes ≡ written (record_kind n (list_of m)) (line_for (record_at row))
   unfolding record_kind
@@ -91,7 +93,8 @@ module _ (ws : List ℕ) (h : T (lawful ws)) where
             → bytes ≡ with_head (send (book_of ws)) out
         unfolding with_head head_kind
         wrote-head out a bytes l o =
-            wrote-line head_kind (head_of (send (book_of ws))) out a bytes (head-writable (send (book_of ws)) sent-fits) l
+            wrote-line head_kind (head_of (send (book_of ws))) out a bytes
+            (head-writable (send (book_of ws)) sent-fits) l
             (subst (λ (v : List ℕ). Meets (write_as head_kind v out) a bytes) head-line o)
 
     -- a row of the log
@@ -115,7 +118,8 @@ module _ (ws : List ℕ) (h : T (lawful ws)) where
 
   pub sent-next :
       (i : ℕ) (out left : List ℕ) → i < length (book_of ws).log → start_at (length (book_of ws).log) ≤ length out
-      → left ≡ patch (start_at i) record_long out (record_bytes (send (book_of ws)) (get_or (book_of ws).log i no_record))
+      → left ≡ patch (start_at i) record_long out
+      (record_bytes (send (book_of ws)) (get_or (book_of ws).log i no_record))
       → ahead i out ≡ ahead (i + 1) left
   unfolding send
   sent-next i out left l room e =

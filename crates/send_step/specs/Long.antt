@@ -4,7 +4,8 @@
 --     next_record      one record more
 --     no_record_lem        past the last record
 use Prim.Native.Nat.{ℕ, ◌+◌, ◌*◌, ◌≤◌, ◌<◌}
-use Rattle.std.proofs.Common.{add-one, arith, ap, ◌∙◌, drop_of_length-le, take-append-drop, take_at, drop_at, drop-drop, drop-cons}
+use Rattle.std.proofs.Common.{add-one, arith, ap, ◌∙◌, drop_of_length-le, take-append-drop, take_at, drop_at, drop-drop}
+use Rattle.std.proofs.Common.{drop-cons}
 use Rattle.std.specs.Prelude.{◌≡◌, T, get_or, take, drop}
 use Rattle.std.proofs.Math.Path.{sym, ap₂}
 use mathlib.Core.List.{List, ◌++◌, map, append_assoc}
@@ -54,7 +55,8 @@ pub next_record :
     → length (record_bytes m (get_or rs i d)) ≡ record_long
     → at + record_long ≤ end → end ≤ length out
     → with_records m (drop i rs) at end out
-    ≡ with_records m (drop (i + 1) rs) (at + record_long) end (patch at record_long out (record_bytes m (get_or rs i d)))
+    ≡ with_records m (drop (i + 1) rs) (at + record_long) end
+    (patch at record_long out (record_bytes m (get_or rs i d)))
 unfolding with_records flat
 next_record m rs out i at end d l n u v =
     let ys = record_bytes m (get_or rs i d) in

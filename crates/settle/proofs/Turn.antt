@@ -148,7 +148,8 @@ module _ (before now : Stamp) (ws : List ℕ) (h : Held ws) (y : Appliable befor
         ∙ ap (λ (rs : List Record). get_or rs i no_record) (from-log before now (book_of ws) y (i + 1))
 
     pub turn-held : Held vs
-    turn-held = held_is vs (applied_from before now (book_of ws) (i + 1)) (from-shape before now (book_of ws) y (i + 1)) e
+    turn-held = held_is vs (applied_from before now (book_of ws) (i + 1))
+        (from-shape before now (book_of ws) y (i + 1)) e
 
     pub turn_in : i < length (book_of vs).log
     turn_in = omega (
@@ -170,7 +171,8 @@ module _ (before now : Stamp) (ws : List ℕ) (h : Held ws) (y : Appliable befor
     turn-newly n f = rw same_record (omega (arith, newly-next before now (book_of ws) y i l))
 
   pub log-end : (i : ℕ) → i ≤ 0
-      → (words_of (applied_from before now (book_of ws) i) ≡ words_of (apply_all before now (book_of ws).log (book_of ws)))
+      → (words_of (applied_from before now (book_of ws) i)
+      ≡ words_of (apply_all before now (book_of ws).log (book_of ws)))
       × (length (newly_applied before now (drop i (book_of ws).log))
       ≡ length (newly_applied before now (book_of ws).log))
   log-end i z =
@@ -191,10 +193,12 @@ module _
   words-applied = e ∙ ap words_of (sym (from_all before now (book_of ws) y))
 
   pub applied-held : Held vs
-  applied-held = held_is vs (applied_from before now (book_of ws) 0) (from-shape before now (book_of ws) y 0) words-applied
+  applied-held = held_is vs (applied_from before now (book_of ws) 0) (from-shape before now (book_of ws) y 0)
+      words-applied
 
   applied-book : book_of vs ≡ applied_from before now (book_of ws) 0
-  applied-book = book_is vs (applied_from before now (book_of ws) 0) (from-shape before now (book_of ws) y 0) words-applied
+  applied-book = book_is vs (applied_from before now (book_of ws) 0) (from-shape before now (book_of ws) y 0)
+      words-applied
 
   pub applied-me : (book_of ws).me < (book_of ws).screens → (book_of vs).me < (book_of vs).screens
   applied-me l =

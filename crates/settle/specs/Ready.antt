@@ -243,7 +243,8 @@ module _ (before now : Stamp) (b : Book) (y : Appliable before now b) where
     next = rw (add-one, drop-cons b.log i no_record h)
 
     pub from_next :
-        apply_one before now (get_or b.log i no_record) (applied_from before now b (i + 1)) ≡ applied_from before now b i
+        apply_one before now (get_or b.log i no_record) (applied_from before now b (i + 1))
+        ≡ applied_from before now b i
     unfolding applied_from
     from_next =
         ap (apply_one before now (get_or b.log i no_record)) (sym (apply-all b before now (drop (i + 1) b.log)))

@@ -27,7 +27,8 @@ fit_rules n table value = every (stamp_fits n) table ∷ stamp_fits n value ∷ 
 
 -- the known stamp is within the book's room, and no row and not the value stamp exceeds it
 unfoldable pub within_rules : Stamp → List Stamp → Stamp → List Bool
-within_rules known table value = leb (total known) book_room ∷ every (λ s. at_most s known) table ∷ at_most value known ∷ []
+within_rules known table value = leb (total known) book_room ∷ every (λ s. at_most s known) table ∷ at_most value
+    known ∷ []
 
 -- the log's order, each record alone, each body, and no known record missing
 unfoldable pub log_rules : ℕ → Stamp → Stamp → Stamp → Stamp → List Record → List Bool
@@ -48,7 +49,8 @@ counted_rules known ready log counted =
     ∷ []
 
 -- what is left once the stamps fit
-unfoldable pub region_rules : ℕ → Stamp → Stamp → List Stamp → Stamp → List Record → List Tap → List Standing → List Bool
+unfoldable pub region_rules : ℕ → Stamp → Stamp → List Stamp → Stamp → List Record → List Tap → List Standing
+    → List Bool
 region_rules n known ready table value log counted prompts =
     all (within_rules known table value)
     ∷ all (log_rules n known ready (lowest_from known table) value log)

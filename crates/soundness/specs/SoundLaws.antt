@@ -10,7 +10,8 @@ use mathlib.Core.List.{List, [], ◌∷◌}
 use borrow.Author.Tests.{eq-eqb, ne_eqb, le-leb}
 use Rattle.std.proofs.Math.Dec.{T, le→leb}
 use Rattle.std.proofs.Math.ListN.{length}
-use Rattle.lists.specs.TestLaws.{◌∈◌, get_or_in, and_l, and_r, both, given, all_from, ◌also◌, done, every-from, same_test}
+use Rattle.lists.specs.TestLaws.{◌∈◌, get_or_in, and_l, and_r, both, given, all_from, ◌also◌, done, every-from}
+use Rattle.lists.specs.TestLaws.{same_test}
 use Rattle.lists.proofs.ElementLaws.{eq→eqb, every-same}
 use Rattle.lists.specs.RowLaws.{length-rows, rows_at}
 use Rattle.lists.specs.Tests.{all, every}
@@ -217,7 +218,8 @@ module _ (ws : List ℕ) where
 module _ (ws : List ℕ) where
   pub shape-off : (n : Name) → (piece_of n).rule (λ m. piece m ws) ≡ false → in_shape ws ≡ false
   unfolding in_shape
-  shape-off n e = all-off (shape_rules ws) (suc (rank n)) (at_place (λ k. (piece_of k).rule (λ m. piece m ws)) true n ∙ e)
+  shape-off n e = all-off (shape_rules ws) (suc (rank n))
+      (at_place (λ k. (piece_of k).rule (λ m. piece m ws)) true n ∙ e)
 
   pub shape-short : (length ws ≡ book_long → ⊥) → in_shape ws ≡ false
   unfolding in_shape
@@ -225,7 +227,8 @@ module _ (ws : List ℕ) where
 
   -- with all the others kept, that of the counted taps decides
   pub shape-last :
-      length ws ≡ book_long → number_in Screens ws ≤ most → number_in Logged ws ≤ log_room → number_in Taps ws ≤ book_room
+      length ws ≡ book_long → number_in Screens ws ≤ most → number_in Logged ws ≤ log_room
+      → number_in Taps ws ≤ book_room
       → (piece_of Table).rule (λ m. piece m ws) ≡ true → (piece_of Log).rule (λ m. piece m ws) ≡ true
       → in_shape ws ≡ (piece_of Counted).rule (λ m. piece m ws)
   unfolding in_shape

@@ -1,6 +1,8 @@
 -- Laws of standings: what one more tap does, how many taps they tell of, and what a verdict says. Assumes nothing.
-use Rattle.std.specs.Prelude.{max, ℕ, ◌<◌, ◌+◌, ◌≤◌, ◌≡◌, refl, ◌≢◌, ◌⊎◌, ◌&&◌, Bool, false, true, not, cond, List, [], ◌∷◌, T, ltb, length, get_or, set}
-use Rattle.std.proofs.Common.{zero-add, arith, ◌∙◌, sym, subst, ap₂, inl, inr, ltb→lt, nltb→le, eqb→eq, length-set, ext_get_or, get_or-set_same, get_or-set_other, ne_eqb, lt-ltb, le-ltb, eq-eqb}
+use Rattle.std.specs.Prelude.{max, ℕ, ◌<◌, ◌+◌, ◌≤◌, ◌≡◌, refl, ◌≢◌, ◌⊎◌, ◌&&◌, Bool, false, true, not, cond, List, []}
+use Rattle.std.specs.Prelude.{◌∷◌, T, ltb, length, get_or, set}
+use Rattle.std.proofs.Common.{zero-add, arith, ◌∙◌, sym, subst, ap₂, inl, inr, ltb→lt, nltb→le, eqb→eq, length-set}
+use Rattle.std.proofs.Common.{ext_get_or, get_or-set_same, get_or-set_other, ne_eqb, lt-ltb, le-ltb, eq-eqb}
 use Rattle.std.proofs.Math.Path.{ap}
 use mathlib.Core.List.Memᴰ
 use Rattle.std.proofs.Math.Dec.{eqb, eqb_refl}
@@ -333,7 +335,8 @@ accept-counted ts p t m e f g = some_of (highest (of_prompt p ts)) accept (of_pr
 pub decline-counted : (ts : List Tap) (p : ℕ) (t : Tap) → t ∈ ts → t.prompt ≡ p → t.showing ≡ (standing ts p).showing
     → t.answer ≡ decline → 0 < (standing ts p).declines
 unfolding standing standing_of
-decline-counted ts p t m e f g = some_of (highest (of_prompt p ts)) decline (of_prompt p ts) t (of-prompt ts p t m e) f g
+decline-counted ts p t m e f g = some_of (highest (of_prompt p ts)) decline (of_prompt p ts) t (of-prompt ts p t m e)
+    f g
 
 -- a count above zero comes from a tap of the highest showing
 pub accept-there : (ts : List Tap) (p : ℕ) → 0 < (standing ts p).accepts

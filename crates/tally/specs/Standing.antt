@@ -1,6 +1,7 @@
 -- The counted taps, and what a prompt's taps come to: the highest showing, its accepts and declines, the verdict.
 -- Assumes nothing.
-use Rattle.std.specs.Prelude.{ℕ, max, ◌+◌, ◌<◌, Bool, ◌&&◌, true, false, cond, List, [], ◌∷◌, map, eqb, ltb, length, set, get_or}
+use Rattle.std.specs.Prelude.{ℕ, max, ◌+◌, ◌<◌, Bool, ◌&&◌, true, false, cond, List, [], ◌∷◌, map, eqb, ltb, length}
+use Rattle.std.specs.Prelude.{set, get_or}
 use Rattle.lists.specs.Order.{insert, insert_all, same_key}
 use Rattle.lists.specs.Tests.{exists, keep, numbers}
 use Rattle.limits.specs.Limits.{accept, decline, prompt_count, count_limit}

@@ -39,8 +39,10 @@ module _ (w : ℕ) where
       ∙ go (eqb r.body w) (first-stamp rs d) h
     where
       go :
-          (c : Bool) → (first_with w rs < length rs → first_stamp (tap_of w) rs ≡ stamp_of (get_or rs (first_with w rs) d))
+          (c : Bool) → (first_with w rs < length rs → first_stamp (tap_of w) rs
+          ≡ stamp_of (get_or rs (first_with w rs) d))
           → cond c 0 (suc (first_with w rs)) < suc (length rs)
-          → cond c (stamp_of r) (first_stamp (tap_of w) rs) ≡ stamp_of (get_or (r ∷ rs) (cond c 0 (suc (first_with w rs))) d)
+          → cond c (stamp_of r) (first_stamp (tap_of w) rs)
+          ≡ stamp_of (get_or (r ∷ rs) (cond c 0 (suc (first_with w rs))) d)
       go true rec l = refl
       go false rec l = rec (omega arith)

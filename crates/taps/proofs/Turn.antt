@@ -68,7 +68,8 @@ module _ (r : List ℕ) (i j w : ℕ) (next : j + 1 ≡ i) (h : i < length r) wh
   last = rw (← next, add-one) (take-suc r j 0 (omega arith))
 
   pub moved_up :
-      w < get_or r j 0 → insert word_key w (take i r) ++ drop (i + 1) r ≡ insert word_key w (take j (set r i (get_or r j 0)))
+      w < get_or r j 0 → insert word_key w (take i r) ++ drop (i + 1) r
+      ≡ insert word_key w (take j (set r i (get_or r j 0)))
       ++ drop i (set r i (get_or r j 0))
   moved_up l =
       let x = get_or r j 0 in
@@ -119,7 +120,8 @@ module _ (r₀ r : List ℕ) (n i : ℕ) (room : n ≤ length r₀) (h : i ≤ n
       (subst (λ (c : Bool). T (not c)) (among-taps n r₀ w) new)
     where
       there : get_or (take n r₀) j 0 ≡ w
-      there = get_or-take n r₀ j 0 (omega arith) ∙ sym (get_or-take i r₀ j 0 l) ∙ ap (λ (a : List ℕ). get_or a j 0) (sym same)
+      there = get_or-take n r₀ j 0 (omega arith) ∙ sym (get_or-take i r₀ j 0 l)
+          ∙ ap (λ (a : List ℕ). get_or a j 0) (sym same)
           ∙ get_or-take i r j 0 l ∙ e
 
 -- two lists that agree on their first i agree on fewer

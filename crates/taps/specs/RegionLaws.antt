@@ -1,7 +1,9 @@
 -- Laws of the counted taps' words: taps and words give each other back, what the words' order says of the taps, and
 -- what inserting a word comes to. Assumes nothing.
-use Rattle.std.specs.Prelude.{ℕ, suc, ◌+◌, ◌-◌, ◌≤◌, ◌<◌, ◌≡◌, refl, not, ◌||◌, List, [], ◌∷◌, ◌++◌, map, T, eqb, ltb, length, take, drop, replicate}
-use Rattle.std.proofs.Common.{arith, sym, ap, ap₂, subst, ◌∙◌, length-append, length-drop, take-append-drop, length-take-le, take_at}
+use Rattle.std.specs.Prelude.{ℕ, suc, ◌+◌, ◌-◌, ◌≤◌, ◌<◌, ◌≡◌, refl, not, ◌||◌, List, [], ◌∷◌, ◌++◌, map, T, eqb, ltb}
+use Rattle.std.specs.Prelude.{length, take, drop, replicate}
+use Rattle.std.proofs.Common.{arith, sym, ap, ap₂, subst, ◌∙◌, length-append, length-drop, take-append-drop}
+use Rattle.std.proofs.Common.{length-take-le, take_at}
 use Rattle.std.proofs.lemmas.List.{length-map, length-replicate}
 use Rattle.std.proofs.Math.Seq.{drop-append-add}
 use Rattle.lists.specs.TestLaws.{◌∈◌, here, there, clash}
@@ -41,7 +43,8 @@ length-words room ts h = simp (length-append, length-map, length-replicate) (ome
 
 pub taps-words : (room : ℕ) (ts : List Tap) → AllFit ts → taps_at (length ts) (tap_words room ts) ≡ ts
 unfolding taps_at tap_words
-taps-words room ts f = rw (take_at (map word_of ts) (replicate (room - length ts) 0) (length ts) (length-map ts word_of))
+taps-words room ts f = rw (take_at (map word_of ts) (replicate (room - length ts) 0) (length ts)
+    (length-map ts word_of))
     (taps-of ts f)
 
 pub words-taps : (room n : ℕ) (r : List ℕ) → n ≤ length r → length r ≡ room → T (every (λ x. eqb x 0) (drop n r))

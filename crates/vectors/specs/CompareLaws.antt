@@ -149,7 +149,8 @@ compared-within at p r e h = go (ltb (alike r (drop at e)) (length r))
     go : (c : Bool) → cond c (Differs (at + alike r (drop at e))) (Same (at + alike r (drop at e))) ≡ Same p
         → p ≤ length e
     go true q = let z : ◌≡◌ {A = ℕ} 0 1 = cc in absurd (omega arith)
-    go false q = let z : at + alike r (drop at e) ≡ p = cc in omega (arith, (alike_le r (drop at e)).1, length-drop at e)
+    go false q = let z : at + alike r (drop at e)
+        ≡ p = cc in omega (arith, (alike_le r (drop at e)).1, length-drop at e)
 
 -- the whole
 alike-equal : (said e : List ℕ) → length said ≤ alike said e → length e ≤ length said → said ≡ e

@@ -143,8 +143,11 @@ writers =
 -- the definitions give each line
 pub edges : (agrees replies ≡ true) × (agrees requests ≡ true) × (agrees messages ≡ true) × (agrees writers ≡ true)
 unfolding reads takes outcome firsts zeros stamp_long only tapped recorded headed m replies requests messages writers
-    line_of readable writable written write_as body_by shaped in_table head_kind record_kind tap_kind question_kind taken_kind
-    already_kind verdict_kind wait_kind refusal_kind gossip_taken_kind open_kind parts_at list_of number_from bytes_of stamp_fits
-    word tap_fits front_ends serials prompt_count showings accept decline body_of body_fits in_range fewest most log_room
+    line_of readable writable written write_as body_by shaped in_table head_kind record_kind tap_kind question_kind
+    taken_kind
+    already_kind verdict_kind wait_kind refusal_kind gossip_taken_kind open_kind parts_at list_of number_from bytes_of
+    stamp_fits
+    word tap_fits front_ends serials prompt_count showings accept decline body_of body_fits in_range fewest most
+    log_room
     record_fits is_known knows
 edges = (refl, refl, refl, refl)

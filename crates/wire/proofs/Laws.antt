@@ -35,7 +35,8 @@ use Rattle.wire.specs.declared.BodyLength.TheVariants.{Long}
 use Rattle.wire.specs.Said.{figures}
 use Rattle.wire.specs.Kinds.{Kind, widths, size_of, lookup, bodies, body_by, is_long, shaped, head_kind, record_kind}
 use Rattle.wire.specs.Kinds.{tap_kind, question_kind, taken_kind, already_kind, verdict_kind, wait_kind, refusal_kind}
-use Rattle.limits.specs.KindNumbers.{head_number, record_number, tap_number, question_number, taken_number, already_number}
+use Rattle.limits.specs.KindNumbers.{head_number, record_number, tap_number, question_number, taken_number}
+use Rattle.limits.specs.KindNumbers.{already_number}
 use Rattle.limits.specs.KindNumbers.{verdict_number, wait_number, refusal_number, gossip_taken_number, open_number}
 use Rattle.limits.specs.KindNumbers.{send_number}
 use Rattle.wire.specs.Kinds.{gossip_taken_kind, open_kind, send_kind}
@@ -188,7 +189,8 @@ said_by (k ∷ ks) line = cond (eqb (get_or line 0 0) k.number) (k.said line) (s
 
 -- so a value that has figures has them alone
 value-figures : (v : Said) → 0 < length (figures v) → said_by kinds (figures v) ≡ v
-unfolding kinds said_by head_kind record_kind tap_kind question_kind taken_kind already_kind verdict_kind wait_kind refusal_kind
+unfolding kinds said_by head_kind record_kind tap_kind question_kind taken_kind already_kind verdict_kind wait_kind
+    refusal_kind
     gossip_taken_kind open_kind send_kind parts_at list_of
 value-figures (said.Head sender screens count stamp) h = refl
 value-figures (said.Record origin number label tap) h = refl
@@ -220,7 +222,8 @@ module _ (k : Kind) (l : Lawful k) where
 module _ (k : Kind) (line out : List ℕ) where
   pub put_front_lem :
       T (writable k line) → size_of k ≤ length out
-      → ((write_as k line out).answer ≡ Wrote (size_of k)) × (take (size_of k) (write_as k line out).bytes ≡ written k line)
+      → ((write_as k line out).answer ≡ Wrote (size_of k))
+      × (take (size_of k) (write_as k line out).bytes ≡ written k line)
       × (drop (size_of k) (write_as k line out).bytes ≡ drop (size_of k) out)
   unfolding write_as
   put_front_lem w h =

@@ -1,6 +1,7 @@
 -- Document 01's whole case: the bytes of its six messages, in order. Assumes nothing.
 use Rattle.std.specs.Prelude.{ℕ, ◌≡◌, refl, List, [], ◌∷◌, ◌++◌, T, replicate}
-use Rattle.limits.specs.Limits.{word, front_ends, serials, prompt_count, showings, accept, decline, fewest, most, log_room}
+use Rattle.limits.specs.Limits.{word, front_ends, serials, prompt_count, showings, accept, decline, fewest, most}
+use Rattle.limits.specs.Limits.{log_room}
 use Rattle.stamp.specs.declared.Parts.{Parts}
 use Rattle.stamp.specs.Parts.{parts_at, list_of}
 use Rattle.stamp.specs.Stamp.{stamp_fits}
@@ -42,8 +43,10 @@ pub record WholeCase : Type 0 where
       (then (2 ∷ 0 ∷ 0 ∷ 0 ∷ 0 ∷ 1 ∷ []) 32 ++ (5 ∷ 0 ∷ 0 ∷ 0 ∷ 1 ∷ 7 ∷ 0 ∷ 1 ∷ 1 ∷ []))
 
 pub whole_case : WholeCase
-unfolding writable written open_kind tap_kind send_kind taken_kind head_kind record_kind parts_at list_of bytes_of stamp_fits word
-    tap_fits front_ends serials prompt_count showings accept decline body_of body_fits in_range fewest most log_room record_fits
+unfolding writable written open_kind tap_kind send_kind taken_kind head_kind record_kind parts_at list_of bytes_of
+    stamp_fits word
+    tap_fits front_ends serials prompt_count showings accept decline body_of body_fits in_range fewest most log_room
+    record_fits
     is_known knows
 whole_case =
     record {

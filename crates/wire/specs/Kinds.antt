@@ -1,6 +1,8 @@
 -- The table of kinds: each kind's number, the widths of its fields, and its field rules. Assumes nothing.
-use Rattle.std.specs.Prelude.{ℕ, ◌+◌, ◌*◌, ◌/◌, Bool, true, false, ◌&&◌, ◌||◌, cond, List, [], ◌∷◌, ◌++◌, eqb, leb, ltb, length, get_or, replicate}
-use Rattle.limits.specs.KindNumbers.{head_number, record_number, tap_number, question_number, taken_number, already_number}
+use Rattle.std.specs.Prelude.{ℕ, ◌+◌, ◌*◌, ◌/◌, Bool, true, false, ◌&&◌, ◌||◌, cond, List, [], ◌∷◌, ◌++◌, eqb, leb, ltb}
+use Rattle.std.specs.Prelude.{length, get_or, replicate}
+use Rattle.limits.specs.KindNumbers.{head_number, record_number, tap_number, question_number, taken_number}
+use Rattle.limits.specs.KindNumbers.{already_number}
 use Rattle.limits.specs.KindNumbers.{verdict_number, wait_number, refusal_number, gossip_taken_number, open_number}
 use Rattle.limits.specs.KindNumbers.{send_number}
 use Rattle.limits.specs.Limits.{parts, prompt_count, log_room}
@@ -121,7 +123,8 @@ record_kind n m =
     record {
       number = record_number;
       body = record_body;
-      rules = λ l. tap_fits (tap_at (3 + parts) l) && (record_fits body_fits n (record_in l) && is_known m (record_in l));
+      rules = λ l. tap_fits (tap_at (3 + parts) l)
+          && (record_fits body_fits n (record_in l) && is_known m (record_in l));
       said = λ l. said.Record (get_or l 1 0) (get_or l 2 0) (parts_at 3 l) (tap_at (3 + parts) l);
     }
 
@@ -147,7 +150,13 @@ question_kind n =
 
 -- replies: all parts are free
 unfoldable pub taken_kind : Kind
-taken_kind = record { number = taken_number; body = taken_body; rules = λ l. true; said = λ l. said.Taken (parts_at 1 l) }
+taken_kind = record {
+  number = taken_number;
+  body = taken_body;
+  rules = λ l. true;
+  said = λ l. said.Taken
+      (parts_at 1 l);
+}
 
 unfoldable pub already_kind : Kind
 already_kind = record {

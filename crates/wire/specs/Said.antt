@@ -1,6 +1,7 @@
 -- What a message says: the number of its kind, and its values in order. Assumes nothing.
 use Rattle.std.specs.Prelude.{ℕ, List, [], ◌∷◌, ◌++◌}
-use Rattle.limits.specs.KindNumbers.{head_number, record_number, tap_number, question_number, taken_number, already_number}
+use Rattle.limits.specs.KindNumbers.{head_number, record_number, tap_number, question_number, taken_number}
+use Rattle.limits.specs.KindNumbers.{already_number}
 use Rattle.limits.specs.KindNumbers.{verdict_number, wait_number, refusal_number, gossip_taken_number, open_number}
 use Rattle.limits.specs.KindNumbers.{send_number}
 use Rattle.stamp.specs.Parts.{list_of}

@@ -27,7 +27,8 @@ put-requires c =
 
 pub returns-then-out-lt-GOSSIP_ROOM : goal.returns-then-out-lt-GOSSIP_ROOM
 returns-then-out-lt-GOSSIP_ROOM c =
-    let clear : (let s = c.args in GossipStopOn s.b.now s.msg.now (Clear c.in-Clear.sender c.in-Clear.screens c.in-Clear.count c.in-Clear.stamp c.in-Clear.new)) =
+    let clear : (let s = c.args in GossipStopOn s.b.now s.msg.now
+    (Clear c.in-Clear.sender c.in-Clear.screens c.in-Clear.count c.in-Clear.stamp c.in-Clear.new)) =
     let s = c.args in
     subst (λ (x : GossipStop). GossipStopOn s.b.now s.msg.now x) c.in-Clear.is c.gossip_stop-stop.ensures in
     let s = c.args in
@@ -36,7 +37,8 @@ returns-then-out-lt-GOSSIP_ROOM c =
 
 pub take_gossip-reply-requires : goal.take_gossip-reply-requires
 take_gossip-reply-requires c =
-    let clear : (let s = c.args in GossipStopOn s.b.now s.msg.now (Clear c.in-Clear.sender c.in-Clear.screens c.in-Clear.count c.in-Clear.stamp c.in-Clear.new)) =
+    let clear : (let s = c.args in GossipStopOn s.b.now s.msg.now
+    (Clear c.in-Clear.sender c.in-Clear.screens c.in-Clear.count c.in-Clear.stamp c.in-Clear.new)) =
     let s = c.args in
     subst (λ (x : GossipStop). GossipStopOn s.b.now s.msg.now x) c.in-Clear.is c.gossip_stop-stop.ensures in
     let s = c.args in
@@ -50,7 +52,8 @@ take_gossip-reply-requires c =
 
 pub put-requires-in-Clear : goal.put-requires-in-Clear
 put-requires-in-Clear c =
-    let clear : (let s = c.args in GossipStopOn s.b.now s.msg.now (Clear c.in-Clear.sender c.in-Clear.screens c.in-Clear.count c.in-Clear.stamp c.in-Clear.new)) =
+    let clear : (let s = c.args in GossipStopOn s.b.now s.msg.now
+    (Clear c.in-Clear.sender c.in-Clear.screens c.in-Clear.count c.in-Clear.stamp c.in-Clear.new)) =
     let s = c.args in
     subst (λ (x : GossipStop). GossipStopOn s.b.now s.msg.now x) c.in-Clear.is c.gossip_stop-stop.ensures in
     let taken : (let s = c.args in
@@ -74,7 +77,8 @@ returns-in-Stopped c =
 
 pub returns-else-out-lt-GOSSIP_ROOM : goal.returns-else-out-lt-GOSSIP_ROOM
 returns-else-out-lt-GOSSIP_ROOM c =
-    let clear : (let s = c.args in GossipStopOn s.b.now s.msg.now (Clear c.in-Clear.sender c.in-Clear.screens c.in-Clear.count c.in-Clear.stamp c.in-Clear.new)) =
+    let clear : (let s = c.args in GossipStopOn s.b.now s.msg.now
+    (Clear c.in-Clear.sender c.in-Clear.screens c.in-Clear.count c.in-Clear.stamp c.in-Clear.new)) =
     let s = c.args in
     subst (λ (x : GossipStop). GossipStopOn s.b.now s.msg.now x) c.in-Clear.is c.gossip_stop-stop.ensures in
     let taken : (let s = c.args in

@@ -13,7 +13,8 @@ record_at-next-requires c =
 pub returns-in_default : goal.returns-in_default
 returns-in_default c =
     absurd (never_other c.args.msg.now c.args.n (list_of c.args.m) c.requires.head c.args.i c.requires.i_bound
-    c.record_at-next.result c.record_at-next.ensures (λ o q p t. not-this _ _ (opened c.in_default.in_default-own.keys2) tt))
+    c.record_at-next.result c.record_at-next.ensures
+    (λ o q p t. not-this _ _ (opened c.in_default.in_default-own.keys2) tt))
 
 pub pack-requires : goal.pack-requires
 pack-requires c =

@@ -1,9 +1,8 @@
 -- `arrivals::survey` meets its contract. Assumes nothing.
-use Prim.Native.Nat.{◌-◌, ◌≤◌}
+use Prim.Native.Nat.{◌≤◌}
 use native.Mathlib.Omega.{arith}
 use mathlib.Core.Path.{refl, sym, ◌∙◌}
 use Rattle.book_log.specs.Region.{record_at}
-use Rattle.book_log.specs.Held.{climb}
 use Rattle.wire.specs.Head.{count_in}
 use Rattle.arrivals.proofs.Turn.{climb-more, new-more, climb-end, new-end}
 use borrow.Author.Rules.{rules}
@@ -33,6 +32,9 @@ returns c =
     let s = c.args in
     let past : count_in s.msg.now ≤ c.loop-i.i = omega (arith, c.requires.msg_value, c.loop-i-test.false) in
     record {
-      reached_after = (sym (c.loop-i.invariant.3 ∙ climb-end s.msg.now c.loop-i.i past c.loop-i.reached), c.loop-i.invariant.2);
+      reached_after = (
+        sym (c.loop-i.invariant.3 ∙ climb-end s.msg.now c.loop-i.i past c.loop-i.reached),
+        c.loop-i.invariant.2,
+      );
       value = (sym (c.loop-i.invariant.4 ∙ new-end s.msg.now c.loop-i.i past s.known.now c.loop-i.new), omega arith);
     }

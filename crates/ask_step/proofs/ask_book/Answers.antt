@@ -25,7 +25,8 @@ label_unknown-requires c =
 pub returns-then-label_unknown : goal.returns-then-label_unknown
 returns-then-label_unknown c =
     let ws = c.args.b.now in
-    sym (line_3 (book_of ws) c.args.prompt (list_of c.args.label) (lawful-sound ws c.requires.t) c.requires.prompt_lt_prompt_count
+    sym (line_3 (book_of ws) c.args.prompt (list_of c.args.label) (lawful-sound ws c.requires.t)
+    c.requires.prompt_lt_prompt_count
     c.requires.t_2 (sym c.label_unknown.ensures ∙ c.if-label_unknown.true))
 
 pub value_of-value-requires : goal.value_of-value-requires

@@ -1,9 +1,7 @@
 -- `book_log::climb_rows` meets its contract. Assumes nothing.
-use Prim.Native.Nat.{◌-◌}
 use native.Mathlib.Omega.{arith}
 use mathlib.Core.Path.{refl, sym, ◌∙◌}
 use Rattle.book_log.specs.Walk.{records-all}
-use Rattle.book_log.specs.Held.{climb}
 use Rattle.book_log.proofs.Turn.{climb-more, climb-end}
 use borrow.Author.Rules.{rules}
 use Rattle.book_log.proofs.climb_rows.Goals as goal

@@ -1,5 +1,5 @@
--- `book_log::climb_rows` meets its contract. The invariant: the rest of the rows, climbed from what is written, give the
--- whole climb. Assumes nothing.
+-- `book_log::climb_rows` meets its contract. The invariant: the rest of the rows, climbed from what is written, give
+-- the whole climb. Assumes nothing.
 use Prim.Native.Nat.{◌≤◌, ◌-◌, ◌*◌}
 use mathlib.Core.Path.{◌≡◌}
 use lib.ListN.{length}

@@ -1,5 +1,5 @@
 -- `book_log::count_waiting` meets its contract. Assumes nothing.
-use Prim.Native.Nat.{◌<◌, ◌-◌}
+use Prim.Native.Nat.{◌<◌}
 use native.Mathlib.Omega.{arith}
 use mathlib.Core.Path.{refl, sym, ap, ◌∙◌}
 use Rattle.lists.specs.TestLaws.{bit}

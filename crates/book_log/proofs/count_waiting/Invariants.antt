@@ -1,4 +1,5 @@
--- `book_log::count_waiting` meets its contract. The invariant: those counted and those from i on are all. Assumes nothing.
+-- `book_log::count_waiting` meets its contract. The invariant: those counted and those from i on are all. Assumes
+-- nothing.
 use Prim.Native.Nat.{◌≤◌, ◌+◌, ◌-◌, ◌*◌}
 use mathlib.Core.Path.{◌≡◌}
 use lib.ListN.{length}

@@ -1,5 +1,4 @@
 -- `book_log::find_body` meets its contract. Assumes nothing.
-use Prim.Native.Nat.{◌-◌}
 use native.Mathlib.Omega.{arith}
 use mathlib.Core.Path.{refl, sym, ◌∙◌}
 use Rattle.book_log.specs.Walk.{records-all}

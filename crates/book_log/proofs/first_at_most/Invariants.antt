@@ -1,5 +1,5 @@
--- `book_log::first_at_most` meets its contract. The invariant: what the parts below k decide is what all decide. Assumes
--- nothing.
+-- `book_log::first_at_most` meets its contract. The invariant: what the parts below k decide is what all decide.
+-- Assumes nothing.
 use Prim.Native.Nat.{◌≤◌}
 use mathlib.Core.Path.{◌≡◌}
 use lib.Dec.{leb}

@@ -1,5 +1,4 @@
 -- `book_log::lowest` meets its contract. Assumes nothing.
-use Prim.Native.Nat.{◌-◌}
 use native.Mathlib.Omega.{arith}
 use mathlib.Core.Path.{refl, sym, ◌∙◌}
 use Rattle.book_log.proofs.Turn.{lowest_start, lowest-more, lowest-end}

@@ -1,9 +1,7 @@
 -- `book_log::meet_into` meets its contract. Assumes nothing.
-use Prim.Native.Nat.{◌-◌}
 use native.Mathlib.Omega.{arith}
 use mathlib.Core.Path.{sym, ◌∙◌}
-use lib.ListN.{length, length-set}
-use Rattle.book_log.specs.Lowest.{meet}
+use lib.ListN.{length-set}
 use Rattle.book_log.proofs.Turn.{meet-more, meet-end}
 use Rattle.book_log.proofs.meet_into.Goals as goal
 

@@ -1,9 +1,7 @@
 -- `book_log::rising_rows` meets its contract. Assumes nothing.
-use Prim.Native.Nat.{◌-◌}
 use native.Mathlib.Omega.{arith}
 use mathlib.Core.Path.{refl, sym, ◌∙◌}
 use borrow.Author.Tests.{not-true, not-false}
-use Rattle.lists.specs.Order.{rising}
 use Rattle.book_log.specs.Walk.{records-all}
 use Rattle.book_log.proofs.Turn.{rising-on, rising-off, rising-end}
 use Rattle.book_log.proofs.rising_rows.Goals as goal

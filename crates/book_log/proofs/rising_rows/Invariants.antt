@@ -10,7 +10,8 @@ use Rattle.book_log.proofs.rising_rows.Given as goal
 
 abbrev pub invariant-loop-i : goal.invariant-loop-i
 invariant-loop-i l =
-    (l.i ≤ l.count) × (l.at ≡ l.i * row_long) × (rising place (records_at l.count l.r) ≡ rising place (records_from l.count l.r l.i l.at))
+    (l.i ≤ l.count) × (l.at ≡ l.i * row_long)
+    × (rising place (records_at l.count l.r) ≡ rising place (records_from l.count l.r l.i l.at))
 
 abbrev pub decreases-loop-i : goal.decreases-loop-i
 decreases-loop-i l = l.count - l.i

@@ -1,9 +1,7 @@
 -- `book_log::rows_sound` meets its contract. Assumes nothing.
-use Prim.Native.Nat.{◌-◌}
 use native.Mathlib.Omega.{arith}
 use mathlib.Core.Path.{refl, sym, ◌∙◌}
 use borrow.Author.Tests.{not-true, not-false}
-use Rattle.lists.specs.Tests.{every}
 use Rattle.book_log.specs.Walk.{records-all}
 use Rattle.book_log.specs.RowSound.{row_sound}
 use Rattle.book_log.proofs.Turn.{every-on, every-off, every-end}

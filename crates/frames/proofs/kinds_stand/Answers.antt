@@ -17,7 +17,12 @@ number_at-count-requires c = let f = c.requires.counted c.if-read-ne-HEAD.false 
 
 pub records_stand-requires : goal.records_stand-requires
 records_stand-requires c =
-    omega (arith, (c.requires.counted c.if-read-ne-HEAD.false).1, count-place c.args.read.now, c.number_at-count.ensures)
+    omega (
+      arith,
+      (c.requires.counted c.if-read-ne-HEAD.false).1,
+      count-place c.args.read.now,
+      c.number_at-count.ensures,
+    )
 
 pub returns : goal.returns
 unfolding kinds_stand

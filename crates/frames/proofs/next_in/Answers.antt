@@ -25,7 +25,8 @@ unfolding next_of
 returns-in_default c =
     let f = c.frame_of-frame in
     let s = c.args in
-    never f.result s.read.now (opened c.in_default.in_default-own.keys2) ∙ ap (λ (x : Frame). next_by x s.read.now) f.ensures
+    never f.result s.read.now (opened c.in_default.in_default-own.keys2)
+    ∙ ap (λ (x : Frame). next_by x s.read.now) f.ensures
 
 -- what the next message is, by the frame that was told
 module _ (read : List ℕ) (opened : Bool) (n : ℕ) (e : frame_of read opened ≡ Whole n) where

@@ -89,7 +89,11 @@ own_refusal-requires c =
     ) in
     let fit = subst (λ (n : ℕ). T (stamp_fits n c.args.m.now)) (at_home) c.requires.sender_lt_screens.1 in
     record {
-      known_len = (c.known_of-known.ensures.1, (fits c.args.screens c.args.m.now c.requires.sender_lt_screens.1).long, me);
+      known_len = (
+        c.known_of-known.ensures.1,
+        (fits c.args.screens c.args.m.now c.requires.sender_lt_screens.1).long,
+        me,
+      );
       t = subst (λ (x : Stamp). T (every (λ y. ltb y word) (merge x c.args.m.now))) (sym c.known_of-known.ensures.0)
           (merged-words ws c.requires.t c.args.m.now fit);
     }

@@ -28,10 +28,10 @@ look_at-look-requires c =
       head = h.head;
       msg_value = h.number;
       known_len = (
-          search rules,
-          house-few w.b.now w.msg.now w.sender w.screens w.count (list_of w.stamp) c.requires.t h
-              c.requires.stamp_value,
-        );
+        search rules,
+        house-few w.b.now w.msg.now w.sender w.screens w.count (list_of w.stamp) c.requires.t h
+            c.requires.stamp_value,
+      );
     }
 
 pub returns-then-not-look : goal.returns-then-not-look
@@ -66,7 +66,8 @@ returns c =
     let whole = not-false _ c.if-not-look.false in (
       unrefused w.b.now w.msg.now w.sender w.screens w.count (list_of w.stamp) c.requires.t
           c.requires.heard c.requires.stamp_value
-          _ c.known_of-known.ensures.0 _ c.look_at-look.ensures.whole_value whole _ c.look_at-look.ensures.result_after.0 _
+          _ c.known_of-known.ensures.0 _ c.look_at-look.ensures.whole_value whole _
+          c.look_at-look.ensures.result_after.0 _
           c.logged_of.ensures.0
           (omega (arith, c.log_room.ensures, c.if-log_room-logged_of.false)),
       refl,
@@ -75,5 +76,6 @@ returns c =
       refl,
       new_is w.b.now w.msg.now w.sender w.screens w.count (list_of w.stamp) c.requires.t
           c.requires.heard c.requires.stamp_value
-          _ c.known_of-known.ensures.0 _ c.look_at-look.ensures.whole_value whole _ c.look_at-look.ensures.result_after.0,
+          _ c.known_of-known.ensures.0 _ c.look_at-look.ensures.whole_value whole _
+          c.look_at-look.ensures.result_after.0,
     )

@@ -34,7 +34,7 @@ merge_at-requires c =
       );
       coming = c.requires.coming;
       fresh = subst (Fresh (unknowns c.args.known.now (records_in c.args.msg.now))) (sym log)
-            c.requires.fresh;
+          c.requires.fresh;
     }
 
 pub overflow_add-logged : goal.overflow_add-logged

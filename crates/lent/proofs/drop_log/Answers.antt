@@ -18,7 +18,12 @@ unfolding from size
 drop_at-n-requires c =
     let ws = c.args.b.now in
     record {
-      a_le_e = (omega arith, omega (arith, piece-within ws c.requires.held Log), omega (arith, c.logged_of-count.ensures.1));
+      a_le_e = (
+        omega arith,
+        omega (arith, piece-within ws c.requires.held Log),
+        omega
+            (arith, c.logged_of-count.ensures.1),
+      );
       s_len = c.ready_of-ready.ensures.1;
     }
 

@@ -34,8 +34,7 @@ row_at-requires c = record-within c.args.b.now c.requires.held c.args.i c.requir
 
 pub returns : goal.returns
 unfolding from
-returns c =
-    (
-      c.row_at.ensures.0 ∙ sym (record-words c.args.b.now c.requires.held c.args.i c.requires.i_in_bounds),
-      c.row_at.ensures.1,
-    )
+returns c = (
+  c.row_at.ensures.0 ∙ sym (record-words c.args.b.now c.requires.held c.args.i c.requires.i_in_bounds),
+  c.row_at.ensures.1,
+)

@@ -40,5 +40,6 @@ unfolding from mid
 returns c =
     let ws = c.args.b.now in
     let j = c.args.j in
-    let e = list-parts _ ws (row_within ws c.requires.held j c.requires.j_bound) ∙ row_words ws c.requires.held j c.requires.j_bound in
+    let e = list-parts _ ws (row_within ws c.requires.held j c.requires.j_bound)
+    ∙ row_words ws c.requires.held j c.requires.j_bound in
     rw (c.list_of.ensures, c.parts_at.ensures) (e, length_list _)

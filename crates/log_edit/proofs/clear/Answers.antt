@@ -1,8 +1,7 @@
 -- `log_edit::clear` meets its contract. Assumes nothing.
-use Prim.Native.Nat.{◌-◌}
 use native.Mathlib.Omega.{arith}
 use mathlib.Core.Path.{sym, ◌∙◌}
-use lib.ListN.{length, drop, length-set}
+use lib.ListN.{length-set}
 use lib.Seq.{drop-set-lt}
 use Rattle.log_edit.proofs.Drop.{zeroed-more, zeroed-end}
 use Rattle.log_edit.proofs.clear.Goals as goal

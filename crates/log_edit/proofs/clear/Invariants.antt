@@ -9,7 +9,8 @@ use Rattle.log_edit.proofs.clear.Given as goal
 abbrev pub invariant-loop-j : goal.invariant-loop-j
 invariant-loop-j l =
     (l.from ≤ l.j) × (l.j ≤ l.to) × (length l.r ≡ length l.initial.r) × (drop l.to l.r ≡ drop l.to l.initial.r)
-    × (take l.from l.initial.r ++ (replicate (l.to - l.from) 0 ++ drop l.to l.initial.r) ≡ take l.j l.r ++ (replicate (l.to - l.j) 0 ++ drop l.to l.initial.r))
+    × (take l.from l.initial.r ++ (replicate (l.to - l.from) 0 ++ drop l.to l.initial.r) ≡ take l.j l.r
+    ++ (replicate (l.to - l.j) 0 ++ drop l.to l.initial.r))
 
 abbrev pub decreases-loop-j : goal.decreases-loop-j
 decreases-loop-j l = l.to - l.j

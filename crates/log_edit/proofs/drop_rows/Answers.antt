@@ -1,5 +1,4 @@
 -- `log_edit::drop_rows` meets its contract. Assumes nothing.
-use Prim.Native.Nat.{◌-◌}
 use native.Mathlib.Omega.{arith}
 use mathlib.Core.Path.{◌≡◌, sym, ◌∙◌}
 use Rattle.log_edit.proofs.Drop.{closing_start, closing-off, closing-on, closing_end, kept-length}

@@ -1,6 +1,5 @@
 -- `log_edit::shift_up` meets its contract. The invariant: the words from j on are moved, those before it are as they
 -- were. Assumes nothing.
-use Prim.Native.Nat.{◌-◌}
 use Rattle.log_edit.proofs.Slide.{Shifting}
 use Rattle.log_edit.proofs.shift_up.Given as goal
 

@@ -1,6 +1,5 @@
 -- `log_edit::staying` meets its contract. The invariant: the rows from the n-th on stand after the row. Assumes
 -- nothing.
-use Prim.Native.Nat.{◌-◌}
 use Rattle.log_edit.proofs.Slide.{Behind}
 use Rattle.log_edit.proofs.staying.Given as goal
 

@@ -4,7 +4,7 @@ use native.Mathlib.Omega.{arith}
 use mathlib.Core.Path.{◌≡◌, sym, ◌∙◌}
 use Rattle.wire.specs.Kinds.{record_long}
 use Rattle.lists.specs.Part.{mid}
-use Rattle.message.specs.Find.{part_at, below}
+use Rattle.message.specs.Find.{part_at}
 use Rattle.message.proofs.Turn.{below_more, below_end}
 use Rattle.message.proofs.count_below.Goals as goal
 

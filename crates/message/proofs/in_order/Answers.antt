@@ -1,5 +1,4 @@
 -- `message::in_order` meets its contract. Assumes nothing.
-use Prim.Native.Nat.{◌-◌}
 use native.Mathlib.Omega.{arith}
 use mathlib.Core.Path.{sym, ◌∙◌}
 use Rattle.stamp.specs.Parts.{list_of}
@@ -35,7 +34,8 @@ loop-i-preserved c =
       omega arith,
       c.loop-i.invariant.1
           ∙ pass_on s.n (list_of s.m) s.count s.msg.now c.loop-i.i (omega arith) _ _ _ _ _
-          (sym c.in-Record.is ∙ c.record_at-next.ensures) (passed c.comes_before.ensures c.if-not-comes_before.false-raw),
+          (sym c.in-Record.is ∙ c.record_at-next.ensures)
+          (passed c.comes_before.ensures c.if-not-comes_before.false-raw),
     )
 
 pub returns : goal.returns

@@ -1,6 +1,5 @@
 -- `numbers::fields_fit` meets its contract: the fields from i on decide. Assumes nothing.
 use mathlib.Core.Path.{sym, ◌∙◌}
-use Prim.Native.Nat.{◌-◌}
 use native.Mathlib.Omega.{arith}
 use borrow.Author.Tests.{not-true, not-false}
 use Rattle.numbers.proofs.Turn.{fit-more, fit-end, fit-short}

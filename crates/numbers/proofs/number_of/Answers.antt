@@ -1,9 +1,8 @@
 -- `numbers::number_of` meets its contract. Assumes nothing.
-use Prim.Native.Nat.{◌<◌, ◌-◌}
 use native.Mathlib.Omega.{arith}
 use mathlib.Core.Path.{◌≡◌, sym, ◌∙◌}
 use lib.Dec.{lit<}
-use lib.ListN.{length, drop, drop_of_length-le}
+use lib.ListN.{length, drop_of_length-le}
 use Rattle.numbers.specs.Number.{number_from}
 use Rattle.numbers.proofs.Step.{number_more, number_grows, number_fits}
 use Rattle.numbers.proofs.number_of.Goals as goal

@@ -1,11 +1,11 @@
--- `numbers::put_fields` meets its contract: what is written so far, then the rest of the row over the rest of the bytes. Assumes nothing.
+-- `numbers::put_fields` meets its contract: what is written so far, then the rest of the row over the rest of the
+-- bytes. Assumes nothing.
 use mathlib.Core.Path.{sym, ◌∙◌}
-use Prim.Native.Nat.{◌+◌, ◌-◌, ◌≤◌, ◌<◌}
+use Prim.Native.Nat.{◌+◌, ◌≤◌, ◌<◌}
 use native.Mathlib.Omega.{arith}
 use lib.ListN.{length, get_or}
 use Rattle.lists.specs.Part.{length-patch}
 use Rattle.numbers.specs.NumberLaws.{length-bytes}
-use Rattle.stamp.specs.Stamp.{total}
 use Rattle.numbers.proofs.Turn.{total-rest, put-more, put-end}
 use Rattle.numbers.proofs.put_fields.Goals as goal
 

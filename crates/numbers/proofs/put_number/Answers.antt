@@ -3,7 +3,7 @@ use native.Mathlib.Omega.{arith}
 use mathlib.Core.Path.{◌≡◌, refl, sym, ◌∙◌}
 use mathlib.Core.List.{append-nil}
 use lib.Seq.{drop-length}
-use lib.ListN.{length, drop, length-set}
+use lib.ListN.{length-set}
 use Rattle.numbers.specs.Number.{bytes_of}
 use Rattle.numbers.proofs.Step.{put-more}
 use Rattle.numbers.proofs.put_number.Goals as goal

@@ -8,7 +8,8 @@ use Rattle.numbers.specs.Number.{bytes_of}
 use Rattle.numbers.proofs.put_number.Given as goal
 
 abbrev pub invariant-loop-i : goal.invariant-loop-i
-invariant-loop-i l = (l.i ≤ length l.s) × (length l.s ≡ length l.initial.s) × (bytes_of (length l.initial.s) l.n ≡ bytes_of l.i l.m ++ drop l.i l.s)
+invariant-loop-i l = (l.i ≤ length l.s) × (length l.s ≡ length l.initial.s)
+    × (bytes_of (length l.initial.s) l.n ≡ bytes_of l.i l.m ++ drop l.i l.s)
 
 abbrev pub decreases-loop-i : goal.decreases-loop-i
 decreases-loop-i l = l.i

@@ -1,9 +1,9 @@
--- `numbers::read_fields` meets its contract: the numbers read so far, then those that the rest of the bytes hold. Assumes nothing.
+-- `numbers::read_fields` meets its contract: the numbers read so far, then those that the rest of the bytes hold.
+-- Assumes nothing.
 use mathlib.Core.Path.{sym, ◌∙◌}
-use Prim.Native.Nat.{◌-◌, ◌<◌}
+use Prim.Native.Nat.{◌<◌}
 use native.Mathlib.Omega.{arith}
 use lib.ListN.{length, length-set}
-use Rattle.stamp.specs.Stamp.{total}
 use Rattle.numbers.proofs.Turn.{total-rest, narrow-this, narrow_next, read_more, read-end}
 use Rattle.numbers.proofs.read_fields.Goals as goal
 

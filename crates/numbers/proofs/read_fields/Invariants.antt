@@ -11,7 +11,8 @@ use Rattle.numbers.proofs.read_fields.Given as goal
 
 abbrev pub invariant-loop-i : goal.invariant-loop-i
 invariant-loop-i l =
-    (l.i ≤ length l.ws) × (length l.v ≡ length l.ws) × (l.at + total (drop l.i l.ws) ≤ length l.bytes) × Narrow (drop l.i l.ws)
+    (l.i ≤ length l.ws) × (length l.v ≡ length l.ws) × (l.at + total (drop l.i l.ws) ≤ length l.bytes)
+    × Narrow (drop l.i l.ws)
     × (read_fields l.ws l.bytes ≡ take l.i l.v ++ read_fields (drop l.i l.ws) (drop l.at l.bytes))
 
 abbrev pub decreases-loop-i : goal.decreases-loop-i

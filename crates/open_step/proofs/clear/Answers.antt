@@ -4,7 +4,7 @@ use mathlib.Core.List.{append-nil}
 use Prim.Native.Nat.{◌-◌}
 use native.Mathlib.Nat.{sub-zero}
 use native.Mathlib.Omega.{arith}
-use lib.ListN.{length, take, length-set}
+use lib.ListN.{length, length-set}
 use lib.Seq.{take_all}
 use Rattle.lists.specs.Scan.{cleared_more}
 use Rattle.open_step.proofs.clear.Goals as goal

@@ -22,7 +22,8 @@ others (says.Refused n) h = refl
 others (says.Gossiped n a) h = refl
 
 pub returns-in_default : goal.returns-in_default
-returns-in_default c = others c.question-answer.result (opened c.in_default.in_default-own.keys2) ∙ ap permits c.question-answer.ensures.answers
+returns-in_default c = others c.question-answer.result (opened c.in_default.in_default-own.keys2)
+    ∙ ap permits c.question-answer.ensures.answers
 
 pub returns : goal.returns
 unfolding accepted

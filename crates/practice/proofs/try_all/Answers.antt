@@ -1,5 +1,4 @@
 -- `practice::try_all` is safe and ends: each vector lies behind the one before. Assumes nothing.
-use Prim.Native.Nat.{◌-◌}
 use native.Mathlib.Omega.{arith}
 use mathlib.Core.Path.{sym, ◌∙◌}
 use Rattle.vectors.specs.FileLaws.{Lies, entry-within}

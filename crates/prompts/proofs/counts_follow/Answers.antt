@@ -23,6 +23,7 @@ pub returns : goal.returns
 returns c =
     let r = c.args.r.now in
     let ts = taps_at c.args.n c.args.taps.now in
-    let table = sym (words_standings _ c.tabulate.ensures.table_len_2) ∙ ap standing_words c.tabulate.ensures.table_after in
+    let table = sym (words_standings _ c.tabulate.ensures.table_len_2)
+    ∙ ap standing_words c.tabulate.ensures.table_after in
     c.same_words.ensures ∙ ap₂ same_key (sym (words_standings r c.requires.r_len)) table
     ∙ same-counts (standings_at r) (afresh ts) (length_standings r ∙ sym (afresh-length ts))

@@ -1,5 +1,4 @@
 -- `prompts::same_words` meets its contract. Assumes nothing.
-use Prim.Native.Nat.{◌-◌}
 use native.Mathlib.Omega.{arith}
 use mathlib.Core.Path.{sym, ◌∙◌}
 use Rattle.prompts.proofs.Turn.{same-on, same-off, same_end}

@@ -4,7 +4,7 @@ use native.Mathlib.Nat.{le_refl}
 use native.Mathlib.Omega.{arith}
 use mathlib.Core.Path.{◌≡◌, sym, ap, subst, ◌∙◌}
 use mathlib.Core.List.{List, map}
-use lib.ListN.{length, take, drop, get_or}
+use lib.ListN.{take, drop, get_or}
 use Rattle.tally.specs.Standing.{CountsFit, blank}
 use Rattle.tally.proofs.StandingLaws.{afresh-length}
 use Rattle.tally.specs.Tap.{tap_of}
@@ -17,8 +17,12 @@ use Rattle.prompts.proofs.tabulate.Goals as goal
 
 pub loop-i-init : goal.loop-i-init
 loop-i-init c =
-    let n = c.args.n in
-    (omega arith, c.requires.table_len, c.requires.table_value ∙ sym (noted-end c.args.taps.now n n (omega arith) (le_refl n)))
+    let n = c.args.n in (
+      omega arith,
+      c.requires.table_len,
+      c.requires.table_value
+          ∙ sym (noted-end c.args.taps.now n n (omega arith) (le_refl n)),
+    )
 
 pub note-requires : goal.note-requires
 note-requires c =
@@ -38,7 +42,8 @@ loop-i-preserved c =
     let j = c.loop-i.i - 1 in
     let e : j + 1 ≡ c.loop-i.i = omega arith in
     let t = tap_of (get_or taps j 0) in
-    let was = c.note.ensures.r_after ∙ ap (λ (ss : List Standing). standing_words (noted_at t ss)) c.loop-i.invariant.2 in (
+    let was = c.note.ensures.r_after
+    ∙ ap (λ (ss : List Standing). standing_words (noted_at t ss)) c.loop-i.invariant.2 in (
       omega arith,
       c.note.ensures.r_len_2,
       ap standings_at was

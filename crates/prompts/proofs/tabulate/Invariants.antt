@@ -1,6 +1,6 @@
 -- `prompts::tabulate` meets its contract. The invariant: the table holds the taps from i on. Assumes nothing.
-use Prim.Native.Nat.{◌-◌, ◌≤◌}
-use mathlib.Core.Path.{◌≡◌, ap}
+use Prim.Native.Nat.{◌≤◌}
+use mathlib.Core.Path.{◌≡◌}
 use lib.ListN.{length}
 use Rattle.prompts.specs.Region.{prompt_words, standings_at}
 use Rattle.prompts.proofs.Turn.{rest_afresh}

@@ -70,7 +70,8 @@ returns-then-is_message-2 c =
 pub returns-then-is_message-3 : goal.returns-then-is_message-3
 unfolding verdict_kind
 returns-then-is_message-3 c =
-    found verdict_kind says_verdict _ _ (past already_kind says_already _ _ (past taken_kind says_taken _ _ (whole _) c.read_taken.ensures
+    found verdict_kind says_verdict _ _
+    (past already_kind says_already _ _ (past taken_kind says_taken _ _ (whole _) c.read_taken.ensures
     c.is_message.ensures c.if-is_message.false) c.read_already.ensures
     c.is_message-2.ensures c.if-is_message-2.false) c.read_verdict.ensures
     c.is_message-3.ensures c.if-is_message-3.true
@@ -78,7 +79,8 @@ returns-then-is_message-3 c =
 pub returns-then-is_message-4 : goal.returns-then-is_message-4
 unfolding wait_kind
 returns-then-is_message-4 c =
-    found wait_kind says_wait _ _ (past verdict_kind says_verdict _ _ (past already_kind says_already _ _ (past taken_kind says_taken _ _ (whole _) c.read_taken.ensures
+    found wait_kind says_wait _ _ (past verdict_kind says_verdict _ _
+    (past already_kind says_already _ _ (past taken_kind says_taken _ _ (whole _) c.read_taken.ensures
     c.is_message.ensures c.if-is_message.false) c.read_already.ensures
     c.is_message-2.ensures c.if-is_message-2.false) c.read_verdict.ensures
     c.is_message-3.ensures c.if-is_message-3.false) c.read_wait.ensures
@@ -87,7 +89,9 @@ returns-then-is_message-4 c =
 pub returns-then-is_message-5 : goal.returns-then-is_message-5
 unfolding refusal_kind
 returns-then-is_message-5 c =
-    found refusal_kind says_refusal _ _ (past wait_kind says_wait _ _ (past verdict_kind says_verdict _ _ (past already_kind says_already _ _ (past taken_kind says_taken _ _ (whole _) c.read_taken.ensures
+    found refusal_kind says_refusal _ _
+    (past wait_kind says_wait _ _ (past verdict_kind says_verdict _ _
+    (past already_kind says_already _ _ (past taken_kind says_taken _ _ (whole _) c.read_taken.ensures
     c.is_message.ensures c.if-is_message.false) c.read_already.ensures
     c.is_message-2.ensures c.if-is_message-2.false) c.read_verdict.ensures
     c.is_message-3.ensures c.if-is_message-3.false) c.read_wait.ensures
@@ -97,7 +101,10 @@ returns-then-is_message-5 c =
 pub returns-then-is_message-6 : goal.returns-then-is_message-6
 unfolding gossip_taken_kind
 returns-then-is_message-6 c =
-    found gossip_taken_kind says_gossip_taken _ _ (past refusal_kind says_refusal _ _ (past wait_kind says_wait _ _ (past verdict_kind says_verdict _ _ (past already_kind says_already _ _ (past taken_kind says_taken _ _ (whole _) c.read_taken.ensures
+    found gossip_taken_kind says_gossip_taken _ _
+    (past refusal_kind says_refusal _ _
+    (past wait_kind says_wait _ _ (past verdict_kind says_verdict _ _
+    (past already_kind says_already _ _ (past taken_kind says_taken _ _ (whole _) c.read_taken.ensures
     c.is_message.ensures c.if-is_message.false) c.read_already.ensures
     c.is_message-2.ensures c.if-is_message-2.false) c.read_verdict.ensures
     c.is_message-3.ensures c.if-is_message-3.false) c.read_wait.ensures
@@ -107,7 +114,10 @@ returns-then-is_message-6 c =
 
 pub returns : goal.returns
 returns c =
-    none_left _ (past gossip_taken_kind says_gossip_taken _ _ (past refusal_kind says_refusal _ _ (past wait_kind says_wait _ _ (past verdict_kind says_verdict _ _ (past already_kind says_already _ _ (past taken_kind says_taken _ _ (whole _) c.read_taken.ensures
+    none_left _ (past gossip_taken_kind says_gossip_taken _ _
+    (past refusal_kind says_refusal _ _
+    (past wait_kind says_wait _ _ (past verdict_kind says_verdict _ _
+    (past already_kind says_already _ _ (past taken_kind says_taken _ _ (whole _) c.read_taken.ensures
     c.is_message.ensures c.if-is_message.false) c.read_already.ensures
     c.is_message-2.ensures c.if-is_message-2.false) c.read_verdict.ensures
     c.is_message-3.ensures c.if-is_message-3.false) c.read_wait.ensures

@@ -8,7 +8,8 @@ use Rattle.replies.proofs.write_verdict.Goals as goal
 
 pub returns-then-not-verdict_fits : goal.returns-then-not-verdict_fits
 unfolding verdict_kind
-returns-then-not-verdict_fits c = broken verdict_kind _ _ refl (failed c.verdict_fits.ensures c.if-not-verdict_fits.true-raw)
+returns-then-not-verdict_fits c = broken verdict_kind _ _ refl
+    (failed c.verdict_fits.ensures c.if-not-verdict_fits.true-raw)
 
 pub put_line-requires : goal.put_line-requires
 put_line-requires c = rw c.verdict_widths-ws.ensures refl

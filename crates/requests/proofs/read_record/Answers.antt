@@ -33,7 +33,8 @@ returns-then-not-record_fits c =
     let shape : shaped record_number c.args.part.now ≡ true =
     passed c.is_kind.ensures c.if-not-is_kind.false-raw in
     not-kept (record_kind _ _) _ _ (shape) (rw c.record_widths-ws.ensures at c.read_fields.ensures)
-    (rw (c.tap_at-tap.ensures, c.parts_at-label.ensures) at (failed c.record_fits.ensures c.if-not-record_fits.true-raw))
+    (rw (c.tap_at-tap.ensures, c.parts_at-label.ensures) at
+    (failed c.record_fits.ensures c.if-not-record_fits.true-raw))
 
 pub returns : goal.returns
 unfolding record_kind line_of parts_at list_of
@@ -42,4 +43,5 @@ returns c =
     passed c.is_kind.ensures c.if-not-is_kind.false-raw in
     rw (c.tap_at-tap.ensures, c.parts_at-label.ensures)
     (kept (record_kind _ _) _ _ (shape) (rw c.record_widths-ws.ensures at c.read_fields.ensures)
-    (rw (c.tap_at-tap.ensures, c.parts_at-label.ensures) at (passed c.record_fits.ensures c.if-not-record_fits.false-raw)))
+    (rw (c.tap_at-tap.ensures, c.parts_at-label.ensures) at
+    (passed c.record_fits.ensures c.if-not-record_fits.false-raw)))

@@ -3,7 +3,6 @@ use Rattle.stamp.specs.Parts.{list_of, parts_at}
 use Rattle.wire.specs.Kinds.{record_kind}
 use Rattle.wire.proofs.Returns.{failed, passed}
 use Rattle.requests.proofs.Rules.{rules-left}
-use borrow.Author.Rules.{rules}
 use Rattle.requests.proofs.record_fits.Goals as goal
 
 pub returns-then-not-fits : goal.returns-then-not-fits

@@ -8,7 +8,8 @@ use Rattle.requests.proofs.write_question.Goals as goal
 
 pub returns-then-not-question_fits : goal.returns-then-not-question_fits
 unfolding question_kind
-returns-then-not-question_fits c = broken (question_kind _) _ _ refl (failed c.question_fits.ensures c.if-not-question_fits.true-raw)
+returns-then-not-question_fits c = broken (question_kind _) _ _ refl
+    (failed c.question_fits.ensures c.if-not-question_fits.true-raw)
 
 pub put_line-requires : goal.put_line-requires
 put_line-requires c = rw c.question_widths-ws.ensures refl

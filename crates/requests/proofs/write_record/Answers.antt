@@ -8,7 +8,8 @@ use Rattle.requests.proofs.write_record.Goals as goal
 
 pub returns-then-not-record_fits : goal.returns-then-not-record_fits
 unfolding record_kind
-returns-then-not-record_fits c = broken (record_kind _ _) _ _ refl (failed c.record_fits.ensures c.if-not-record_fits.true-raw)
+returns-then-not-record_fits c = broken (record_kind _ _) _ _ refl
+    (failed c.record_fits.ensures c.if-not-record_fits.true-raw)
 
 pub put_line-requires : goal.put_line-requires
 put_line-requires c = rw c.record_widths-ws.ensures refl

@@ -1,5 +1,5 @@
 -- `screen::main` is safe and ends: what each turn asks for and says is within the arrays. Assumes nothing.
-use Prim.Native.Nat.{◌-◌, ◌≤◌}
+use Prim.Native.Nat.{◌≤◌}
 use mathlib.Core.Path.{◌≡◌}
 use lib.ListN.{length}
 use Rattle.wire.specs.Kinds.{longest}

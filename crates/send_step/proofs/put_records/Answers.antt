@@ -1,5 +1,5 @@
 -- `send_step::put_records` meets its contract. Assumes nothing.
-use Prim.Native.Nat.{◌-◌, ◌≤◌, ◌<◌}
+use Prim.Native.Nat.{◌≤◌, ◌<◌}
 use native.Mathlib.Omega.{arith}
 use mathlib.Core.Path.{refl, sym, ◌∙◌}
 use lib.ListN.{length}
@@ -32,7 +32,8 @@ loop-i-preserved c =
       omega arith,
       search rules,
       c.loop-i.invariant.2
-          ∙ sent-next ws c.requires.t c.loop-i.i c.loop-i.out _ lt (omega (arith, c.requires.b_in_bounds, c.loop-i.invariant.1))
+          ∙ sent-next ws c.requires.t c.loop-i.i c.loop-i.out _ lt
+          (omega (arith, c.requires.b_in_bounds, c.loop-i.invariant.1))
           c.put_record.ensures,
     )
 

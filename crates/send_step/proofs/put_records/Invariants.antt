@@ -13,7 +13,8 @@ invariant-loop-i l =
     (l.i ≤ length (book_of l.b).log)
     × (length l.out ≡ length l.initial.out)
     × (with_records (send (book_of l.b)) (book_of l.b).log head_long (start_at (length (book_of l.b).log)) l.initial.out
-    ≡ with_records (send (book_of l.b)) (drop l.i (book_of l.b).log) (start_at l.i) (start_at (length (book_of l.b).log)) l.out)
+    ≡ with_records (send (book_of l.b)) (drop l.i (book_of l.b).log) (start_at l.i)
+    (start_at (length (book_of l.b).log)) l.out)
 
 abbrev pub decreases-loop-i : goal.decreases-loop-i
 decreases-loop-i l = l.n - l.i

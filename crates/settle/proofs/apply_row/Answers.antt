@@ -60,7 +60,7 @@ apply_record-requires c =
       held = c.requires.held;
       row_len = (search rules, subst (λ (r : Record). r.origin < parts) (sym c.log_row-row.ensures.0) p.origin);
       countable = subst (λ (r : Record). Countable r.body b) (sym c.log_row-row.ensures.0)
-            (p.countable (subst T (sym (found).1) tt));
+          (p.countable (subst T (sym (found).1) tt));
     }
 
 pub returns : goal.returns

@@ -28,7 +28,8 @@ drop_log-requires c =
     let now = c.ready_of-s.ensures.0 in
     let before = w.before.now in
     let e =
-    c.apply_log-n.ensures.b_after ∙ ap (λ (x : Stamp). words_of (apply_all before x (book_of ws).log (book_of ws))) now in
+    c.apply_log-n.ensures.b_after ∙ ap (λ (x : Stamp). words_of (apply_all before x (book_of ws).log (book_of ws)))
+    now in
     let y = c.requires.appliable in
     record {
       held = applied-held w.before.now ws y _ e;
@@ -42,7 +43,8 @@ returns c =
     let now = c.ready_of-s.ensures.0 in
     let before = w.before.now in
     let e =
-    c.apply_log-n.ensures.b_after ∙ ap (λ (x : Stamp). words_of (apply_all before x (book_of ws).log (book_of ws))) now in
+    c.apply_log-n.ensures.b_after ∙ ap (λ (x : Stamp). words_of (apply_all before x (book_of ws).log (book_of ws)))
+    now in
     let number = ap (λ (x : Stamp). length (newly_applied w.before.now x (book_of ws).log)) now in
     let shed = shed-settled w.before.now ws c.requires.appliable _ e in
     record {

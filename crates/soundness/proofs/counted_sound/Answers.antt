@@ -4,7 +4,6 @@ use mathlib.Core.Bool.{and-true, and-false}
 use borrow.Author.Tests.{not-true, not-false}
 use Rattle.taps.specs.RegionLaws.{length-taps}
 use Rattle.soundness.specs.Clauses.{counted_rules}
-use borrow.Author.Rules.{rules}
 use Rattle.soundness.proofs.counted_sound.Goals as goal
 
 pub returns-then-not-rising_words : goal.returns-then-not-rising_words

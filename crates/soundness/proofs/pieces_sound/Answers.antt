@@ -12,7 +12,6 @@ use Rattle.limits.specs.Limits.{parts}
 use Rattle.stamp.specs.Laws.{fits-long, fits-words}
 use Rattle.soundness.specs.Clauses.{fit_rules, piece_rules}
 use Rattle.soundness.proofs.Turn.{row_fits}
-use borrow.Author.Rules.{rules}
 use Rattle.soundness.proofs.pieces_sound.Goals as goal
 
 pub returns-then-not-stamps_fit : goal.returns-then-not-stamps_fit

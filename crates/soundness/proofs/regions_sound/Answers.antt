@@ -3,7 +3,6 @@ use mathlib.Core.Path.{sym, ◌∙◌}
 use mathlib.Core.Bool.{and-true, and-false}
 use borrow.Author.Tests.{not-true, not-false}
 use Rattle.soundness.specs.Clauses.{region_rules}
-use borrow.Author.Rules.{rules}
 use Rattle.soundness.proofs.regions_sound.Goals as goal
 
 pub returns-then-not-stamps_within : goal.returns-then-not-stamps_within

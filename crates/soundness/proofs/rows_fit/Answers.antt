@@ -1,9 +1,7 @@
 -- `soundness::rows_fit` meets its contract. Assumes nothing.
-use Prim.Native.Nat.{◌-◌}
 use native.Mathlib.Omega.{arith}
 use mathlib.Core.Path.{refl, sym, ◌∙◌}
 use borrow.Author.Tests.{not-true, not-false}
-use Rattle.lists.specs.Rows.{rows}
 use Rattle.limits.specs.Limits.{parts}
 use Rattle.stamp.specs.Stamp.{stamp_fits}
 use Rattle.soundness.proofs.Turn.{rows_all, rows_on, rows-off, rows_end}

@@ -11,7 +11,8 @@ use Rattle.soundness.proofs.rows_fit.Given as goal
 
 abbrev pub invariant-loop-i : goal.invariant-loop-i
 invariant-loop-i l =
-    (l.i ≤ l.n) × (l.at ≡ l.i * parts) × (every (stamp_fits l.n) (rows parts l.n l.table) ≡ every_from (stamp_fits l.n) parts l.n l.table l.i l.at)
+    (l.i ≤ l.n) × (l.at ≡ l.i * parts)
+    × (every (stamp_fits l.n) (rows parts l.n l.table) ≡ every_from (stamp_fits l.n) parts l.n l.table l.i l.at)
 
 abbrev pub decreases-loop-i : goal.decreases-loop-i
 decreases-loop-i l = l.n - l.i

@@ -12,7 +12,8 @@ use Rattle.soundness.proofs.rows_within.Given as goal
 abbrev pub invariant-loop-i : goal.invariant-loop-i
 invariant-loop-i l =
     (l.i ≤ l.n) × (l.at ≡ l.i * parts)
-    × (every (λ x. at_most x l.known) (rows parts l.n l.table) ≡ every_from (λ x. at_most x l.known) parts l.n l.table l.i l.at)
+    × (every (λ x. at_most x l.known) (rows parts l.n l.table)
+    ≡ every_from (λ x. at_most x l.known) parts l.n l.table l.i l.at)
 
 abbrev pub decreases-loop-i : goal.decreases-loop-i
 decreases-loop-i l = l.n - l.i

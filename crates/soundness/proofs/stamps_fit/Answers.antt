@@ -3,7 +3,6 @@ use mathlib.Core.Path.{sym, ◌∙◌}
 use mathlib.Core.Bool.{and-true}
 use borrow.Author.Tests.{not-true, not-false}
 use Rattle.soundness.specs.Clauses.{fit_rules}
-use borrow.Author.Rules.{rules}
 use Rattle.soundness.proofs.stamps_fit.Goals as goal
 
 pub returns-then-not-rows_fit : goal.returns-then-not-rows_fit

@@ -8,7 +8,6 @@ use Rattle.limits.specs.LimitLaws.{log_small, book_small}
 use Rattle.lent.specs.Lay.{number_word}
 use Rattle.lent.specs.Words.{Screen, Screens, Logged, Taps, size, from, book_long, number_in}
 use Rattle.soundness.specs.SoundLaws.{word_rules}
-use borrow.Author.Rules.{rules}
 use Rattle.soundness.proofs.words_sound.Goals as goal
 
 numbers : (ws : List ℕ)
@@ -52,10 +51,10 @@ pieces_sound-requires c =
       );
       row_long_in_bounds = (omega (arith, n, e, c.log_words.ensures.1), omega (arith, n, e, log_small));
       taps_in_bounds = (
-          omega (arith, n, e, c.counted_words.ensures.1),
-          omega (arith, n, e, book_small),
-          c.prompt_words.ensures.1,
-        );
+        omega (arith, n, e, c.counted_words.ensures.1),
+        omega (arith, n, e, book_small),
+        c.prompt_words.ensures.1,
+      );
     }
 
 pub returns : goal.returns

@@ -1,10 +1,8 @@
 -- `stamp::all_words` meets its contract. Assumes nothing.
-use Prim.Native.Nat.{◌-◌}
 use native.Mathlib.Omega.{arith}
 use mathlib.Core.Path.{sym, ◌∙◌}
 use lib.Dec.{ltb}
 use borrow.Author.Tests.{lt-ltb, le-ltb}
-use Rattle.lists.specs.Tests.{every}
 use Rattle.lists.specs.EveryScan.{every-on, every-off, every-end}
 use Rattle.limits.specs.Limits.{word}
 use Rattle.stamp.proofs.all_words.Goals as goal

@@ -1,5 +1,4 @@
 -- `stamp::at_most` meets its contract. Assumes nothing.
-use Prim.Native.Nat.{◌-◌}
 use native.Mathlib.Omega.{arith}
 use mathlib.Core.Path.{sym, ◌∙◌}
 use Rattle.stamp.proofs.Step.{at-most-on, at-most-off, at-most-end}

@@ -1,9 +1,9 @@
 -- `stamp::copy` meets its contract. Assumes nothing.
 use mathlib.Core.Path.{sym, ◌∙◌}
 use mathlib.Core.List.{append-nil}
-use Prim.Native.Nat.{◌≤◌, ◌-◌}
+use Prim.Native.Nat.{◌≤◌}
 use native.Mathlib.Omega.{arith}
-use lib.ListN.{length, take, drop, length-set, drop_of_length-le}
+use lib.ListN.{length, length-set, drop_of_length-le}
 use lib.Seq.{take_all}
 use Rattle.lists.specs.Scan.{copied_more}
 use Rattle.stamp.proofs.copy.Goals as goal

@@ -6,7 +6,8 @@ use lib.ListN.{length, take, drop}
 use Rattle.stamp.proofs.copy.Given as goal
 
 abbrev pub invariant-loop-i : goal.invariant-loop-i
-invariant-loop-i l = (l.i ≤ length l.dst) × (length l.dst ≡ length l.initial.dst) × (l.src ≡ take l.i l.dst ++ drop l.i l.src)
+invariant-loop-i l = (l.i ≤ length l.dst) × (length l.dst ≡ length l.initial.dst)
+    × (l.src ≡ take l.i l.dst ++ drop l.i l.src)
 
 abbrev pub decreases-loop-i : goal.decreases-loop-i
 decreases-loop-i l = length l.dst - l.i

@@ -1,6 +1,6 @@
 -- `stamp::lacking` meets its contract. The invariant: n holds the bits of the parts from i on, and so few parts have so
 -- few bits. Assumes nothing.
-use Prim.Native.Nat.{◌-◌, ◌^◌, ◌≤◌, ◌<◌}
+use Prim.Native.Nat.{◌^◌, ◌≤◌, ◌<◌}
 use mathlib.Core.Path.{◌≡◌}
 use lib.ListN.{length, drop}
 use Rattle.limits.specs.Limits.{parts}

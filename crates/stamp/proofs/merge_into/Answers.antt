@@ -1,9 +1,7 @@
 -- `stamp::merge_into` meets its contract. Assumes nothing.
-use Prim.Native.Nat.{◌-◌}
 use native.Mathlib.Omega.{arith}
 use mathlib.Core.Path.{sym, ◌∙◌}
-use lib.ListN.{length, length-set}
-use Rattle.stamp.specs.Stamp.{merge}
+use lib.ListN.{length-set}
 use Rattle.stamp.proofs.Step.{merge-more, merge-end}
 use Rattle.stamp.proofs.merge_into.Goals as goal
 

@@ -8,7 +8,8 @@ use Rattle.stamp.specs.Stamp.{merge}
 use Rattle.stamp.proofs.merge_into.Given as goal
 
 abbrev pub invariant-loop-i : goal.invariant-loop-i
-invariant-loop-i l = (l.i ≤ length l.a) × (length l.a ≡ length l.initial.a) × (merge l.initial.a l.b ≡ take l.i l.a ++ merge (drop l.i l.a) (drop l.i l.b))
+invariant-loop-i l = (l.i ≤ length l.a) × (length l.a ≡ length l.initial.a)
+    × (merge l.initial.a l.b ≡ take l.i l.a ++ merge (drop l.i l.a) (drop l.i l.b))
 
 abbrev pub decreases-loop-i : goal.decreases-loop-i
 decreases-loop-i l = length l.a - l.i

@@ -1,8 +1,7 @@
 -- `stamp::sum` meets its contract. Assumes nothing.
-use Prim.Native.Nat.{◌-◌}
 use native.Mathlib.Omega.{arith}
 use mathlib.Core.Path.{◌≡◌}
-use lib.ListN.{length, drop, drop_of_length-le}
+use lib.ListN.{drop, drop_of_length-le}
 use Rattle.limits.specs.Limits.{word}
 use Rattle.stamp.specs.Stamp.{total}
 use Rattle.stamp.specs.Laws.{total-below}

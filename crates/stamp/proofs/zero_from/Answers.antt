@@ -1,10 +1,8 @@
 -- `stamp::zero_from` meets its contract. Assumes nothing.
-use Prim.Native.Nat.{◌-◌}
 use native.Mathlib.Omega.{arith}
 use mathlib.Core.Path.{sym, ◌∙◌}
 use lib.Dec.{eqb}
 use borrow.Author.Tests.{eq-eqb, ne_eqb}
-use Rattle.lists.specs.Tests.{every}
 use Rattle.lists.specs.EveryScan.{every-on, every-off, every-end}
 use Rattle.stamp.proofs.zero_from.Goals as goal
 

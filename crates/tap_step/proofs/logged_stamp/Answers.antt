@@ -16,12 +16,11 @@ log_row-row-requires c =
     }
 
 pub stamp_parts-requires : goal.stamp_parts-requires
-stamp_parts-requires c =
-    (
-      search rules,
-      subst (λ (x : Record). x.origin < parts) (sym c.log_row-row.ensures.0)
-          (logged-origin c.args.b.now c.requires.t c.args.i c.requires.i_in_bounds),
-    )
+stamp_parts-requires c = (
+  search rules,
+  subst (λ (x : Record). x.origin < parts) (sym c.log_row-row.ensures.0)
+      (logged-origin c.args.b.now c.requires.t c.args.i c.requires.i_in_bounds),
+)
 
 pub returns : goal.returns
 returns c = c.stamp_parts.ensures ∙ ap stamp_of c.log_row-row.ensures.0

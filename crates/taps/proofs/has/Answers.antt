@@ -1,9 +1,7 @@
 -- `taps::has` meets its contract. Assumes nothing.
-use Prim.Native.Nat.{◌-◌}
 use native.Mathlib.Omega.{arith}
 use mathlib.Core.Path.{sym, ◌∙◌}
 use Rattle.lists.specs.FirstScan.{first-end}
-use Rattle.tally.specs.Standing.{among}
 use Rattle.taps.specs.RegionLaws.{among-taps}
 use Rattle.taps.proofs.Turn.{has_here, has_on}
 use Rattle.taps.proofs.has.Goals as goal

@@ -2,9 +2,8 @@
 use Prim.Native.Nat.{◌+◌, ◌-◌, ◌<◌}
 use native.Mathlib.Omega.{arith}
 use mathlib.Core.Path.{◌≡◌, refl, sym, ◌∙◌}
-use lib.ListN.{length, take, get_or, length-set}
+use lib.ListN.{get_or, length-set}
 use lib.Seq.{take-set-le}
-use Rattle.lists.specs.Order.{insert}
 use Rattle.taps.specs.RegionLaws.{inserted-by-words}
 use Rattle.taps.proofs.Turn.{moved_up, put-after, put_first, front-rising, front-apart, fewer}
 use Rattle.taps.proofs.insert_word.Goals as goal

@@ -1,6 +1,6 @@
 -- `taps::insert_word` meets its contract. The invariant: the words before i stand as at entry, and inserting among them
 -- gives the whole. Assumes nothing.
-use Prim.Native.Nat.{◌+◌, ◌-◌, ◌≤◌}
+use Prim.Native.Nat.{◌+◌, ◌≤◌}
 use mathlib.Core.Path.{◌≡◌}
 use mathlib.Core.List.{◌++◌}
 use lib.ListN.{length, take, drop}

@@ -2,7 +2,6 @@
 use Prim.Native.Nat.{◌+◌, ◌-◌}
 use native.Mathlib.Omega.{arith}
 use mathlib.Core.Path.{◌≡◌, sym, ◌∙◌}
-use Rattle.lists.specs.Order.{rising}
 use Rattle.taps.specs.RegionLaws.{rising-taps}
 use Rattle.taps.proofs.Turn.{rising-on, rising-off, rising-end}
 use Rattle.taps.proofs.rising_words.Goals as goal

@@ -1,8 +1,8 @@
 -- `practice::play::follow` meets its contract. Assumes nothing.
-use Prim.Native.Nat.{◌+◌, ◌-◌, ◌≤◌}
+use Prim.Native.Nat.{◌+◌, ◌≤◌}
 use native.Mathlib.Omega.{arith}
 use mathlib.Core.Path.{sym, ap, ◌∙◌}
-use lib.ListN.{length, drop, length-drop}
+use lib.ListN.{length, length-drop}
 use borrow.Author.Rules.{rules}
 use Rattle.program.proofs.TurnLaws.{say-within, last_within}
 use Rattle.vectors.specs.CompareLaws.{to_end, compared-within}

@@ -9,8 +9,10 @@ use Rattle.practice.proofs.play.follow.Given as goal
 
 abbrev pub invariant-loop-used : goal.invariant-loop-used
 invariant-loop-used l =
-    (l.at ≤ length l.input) × (l.place ≤ length l.expected) × (length l.book ≡ length l.initial.book) × (length l.out ≡ length l.initial.out)
-    × (compared_at 0 (said_by l.initial.book l.input) l.expected ≡ compared_at l.place (said_in l.opened l.book (drop l.at l.input)) l.expected)
+    (l.at ≤ length l.input) × (l.place ≤ length l.expected) × (length l.book ≡ length l.initial.book)
+    × (length l.out ≡ length l.initial.out)
+    × (compared_at 0 (said_by l.initial.book l.input) l.expected
+    ≡ compared_at l.place (said_in l.opened l.book (drop l.at l.input)) l.expected)
 
 abbrev pub decreases-loop-used : goal.decreases-loop-used
 decreases-loop-used l = length l.input - l.at

@@ -1,7 +1,5 @@
 -- `vectors::compare::count_alike` meets its contract. Assumes nothing.
-use Prim.Native.Nat.{◌-◌}
 use native.Mathlib.Omega.{arith}
-use Rattle.vectors.specs.Compare.{alike}
 use Rattle.vectors.specs.CompareLaws.{alike-more, alike-off, alike_end, alike_all}
 use Rattle.vectors.proofs.compare.count_alike.Goals as goal
 
