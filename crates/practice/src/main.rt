@@ -4,7 +4,7 @@
 
 mod play;
 
-ghost use Rattle.std.specs.Prelude.{◌≡◌, ◌≤◌, length, IfOk};
+ghost use Rattle.std.specs.Prelude.{◌≡◌, ◌≤◌, length, IfOk, OnErr};
 ghost use Rattle.vectors.specs.File.{Inside, file_room};
 
 use play::play;
@@ -94,9 +94,10 @@ fn room() -> [u8; FILE_ROOM]
     [0; FILE_ROOM]
 }
 
-// Reads until the buffer is full or the file ends; how many bytes came.
+// Reads until the buffer is full or the file ends; how many bytes came. An error is the read's own, and no other comes.
 fn read_full<R: Read>(from: &mut R, buf: &mut [u8]) -> io::Result<usize>
-    ensures { IfOk result (λ n. n ≤ length buf.new) }
+    ensures ok { IfOk result (λ n. n ≤ length buf.new) }
+    ensures err { OnErr result (length buf.new ≡ length buf.old) }
 {
     let mut done = 0;
     while done < buf.len() {

@@ -46,7 +46,7 @@ loop-turns-preserved-in-Read c =
     let w = read-within _ _ _ _ _ _ _ _ c.next_turn-turn.ensures _ c.in-Read.is in
     (omega (arith, w.0, front_long l.have l.msg (omega arith)), w.1) in
     let r = reading in
-    (search rules, search rules, search rules, omega (arith, r.0, r.1, c.read_on.ensures))
+    (search rules, search rules, search rules, omega (arith, r.0, r.1, c.in_ok-got-in-Read.ensures.ok))
 
 pub write_front-requires : goal.write_front-requires
 write_front-requires c =
