@@ -4,7 +4,7 @@
 
 mod play;
 
-ghost use Rattle.std.specs.Prelude.{◌≡◌, ◌≤◌, length, IfOk, OnErr};
+ghost use Rattle.std.specs.Prelude.{◌≡◌, ◌≤◌, length, IfOk};
 ghost use Rattle.vectors.specs.File.{Inside, file_room};
 
 use play::play;
@@ -94,10 +94,10 @@ fn room() -> [u8; FILE_ROOM]
     [0; FILE_ROOM]
 }
 
-// Reads until the buffer is full or the file ends; how many bytes came. An error is the read's own, and no other comes.
+// Reads until the buffer is full or the file ends; how many bytes came. An error is that of a read, and the buffer
+// holds what came before it.
 fn read_full<R: Read>(from: &mut R, buf: &mut [u8]) -> io::Result<usize>
-    ensures ok { IfOk result (λ n. n ≤ length buf.new) }
-    ensures err { OnErr result (length buf.new ≡ length buf.old) }
+    ensures { IfOk result (λ n. n ≤ length buf.new) }
 {
     let mut done = 0;
     while done < buf.len() {
@@ -119,7 +119,7 @@ fn try_file<R: Read>(rt: &impl Print, from: &mut R) -> io::Result<()> {
 fn main(rt: HostRuntime) -> io::Result<()> {
     let mut arguments = env::args(&rt)?;
     let Some(path) = arguments.nth(1) else {
-        return eprintln!(rt; "the argument that names the file of vectors is missing");
+        return eprintln!(rt; "the argument that names the file of vectors: Invalid argument");
     };
     match fs::open(&rt, path.as_str()) {
         Ok(mut file) => try_file(&rt, &mut file),

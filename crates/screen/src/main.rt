@@ -2,7 +2,7 @@
 // library's.
 #![tactic(auto)]
 
-ghost use Rattle.std.specs.Prelude.{◌-◌, ◌≡◌, ◌≤◌, length, IfOk, OnErr};
+ghost use Rattle.std.specs.Prelude.{◌-◌, ◌≡◌, ◌≤◌, length, take, IfOk};
 
 use lent::BOOK;
 use program::{Turn, next_turn};
@@ -10,12 +10,12 @@ use std::io;
 use std::io::Read;
 use wire::LONGEST;
 
-// Reads behind the first `have` bytes until there are n in all or the input ends; how many came. An error is the read's
-// own, and no other comes.
+// Reads behind the first `have` bytes, which stay, until there are n in all or the input ends; how many came. An error
+// is that of a read.
 fn read_on<R: Read>(input: &mut R, msg: &mut [u8], have: usize, n: usize) -> io::Result<usize>
     requires { (have ≤ n) × (n ≤ length msg.old) }
     ensures ok { IfOk result (λ got. got ≤ n - have) }
-    ensures err { OnErr result (length msg.new ≡ length msg.old) }
+    ensures kept { take have msg.new ≡ take have msg.old }
 {
     let mut got = 0;
     while got < n - have {
