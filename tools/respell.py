@@ -1,5 +1,5 @@
 #!/usr/bin/env python3
-"""Respells this repository's own antt names as today's Rattle spells them, after /opt/rattle/port/port.py has run.
+"""Respells this repository's own antt names as today's Rattle spells them, after the port.py of the kit has run.
 
 usage: python3 tools/respell.py [--table] [ROOT]     (--table only prints the rows: old name, new name)
 
