@@ -1,6 +1,7 @@
 -- Laws of counting tap by tap: which taps are counted, that the two counts grow with the taps, and that counts which
 -- follow from the counted taps go on to. Assumes nothing.
-use Rattle.std.specs.Prelude.{ℕ, ◌<◌, ◌+◌, ◌≤◌, ◌≡◌, refl, ◌≢◌, ◌⊎◌, Bool, not, cond, List, [], ◌∷◌, ◌++◌, T, eqb, ltb}
+use Rattle.std.specs.Prelude.{ℕ, ◌<◌, ◌+◌, ◌≤◌, ◌≡◌, refl, ◌≢◌, ◌⊎◌, Bool, not}
+use Rattle.std.specs.Prelude.{cond, List, [], ◌∷◌, ◌++◌, T, eqb, ltb}
 use Rattle.std.specs.Prelude.{length, get_or, set}
 use Rattle.std.proofs.Common.{arith, ap, ◌∙◌, sym, subst, inl, inr, eqb→eq, ltb→lt, nltb→le, length-set}
 use Rattle.lists.specs.TestLaws.{◌∈◌, here, there, either, tell, is_true, is_false, clash}

@@ -1,15 +1,16 @@
 -- `message::records_of` meets its contract. Assumes nothing.
-use Prim.Native.Nat.{ℕ, ◌+◌, ◌*◌, ◌≤◌}
+use Prim.Native.Nat.{ℕ, ◌+◌}
 use native.Mathlib.Omega.{arith}
-use mathlib.Core.Path.{◌≡◌, refl, sym, ap₂, ◌∙◌}
+use mathlib.Core.Path.{◌≡◌, refl, sym, ap, ap₂, ◌∙◌}
 use lib.Dec.{T}
-use lib.ListN.{length}
+use mathlib.Core.List.{List}
+use Rattle.stamp.specs.declared.Parts.{Parts}
 use Rattle.lists.specs.Part.{mid}
-use Rattle.wire.specs.Kinds.{head_kind, head_long, record_long}
+use Rattle.wire.specs.Kinds.{head_kind}
 use Rattle.wire.specs.declared.Said.TheVariants as said
 use Rattle.message.specs.Tags.{not-this}
 use Rattle.wire.specs.Head.{count_in}
-use Rattle.message.specs.Message.{parts_of, record_parts, well_formed}
+use Rattle.message.specs.Message.{parts_of, record_parts, well_formed, read_gossip}
 use Rattle.message.specs.Find.{place_for}
 use Rattle.message.proofs.FindLaws.{end-part, none-refused, start-refused, place-next, found, none_found}
 use Rattle.message.proofs.FindLaws.{start-some, start_none}
@@ -29,138 +30,74 @@ returns-in_default c =
       starts = rw (start-refused s.origin s.msg.now e) (omega arith);
     }
 
+-- a head is read: the message is well formed, and its count is the head's
+headed : (msg : List ℕ) (sender screens count : ℕ) (m : Parts) → said.Head sender screens count m ≡ read_gossip msg
+    → T (well_formed msg) × (count_in msg ≡ count)
+headed msg sender screens count m e =
+    let told = gossip-told msg (said.Head sender screens count m) e (omega arith) in
+    (told.0, head-count msg _ _ _ _ told.1)
+
+-- a place is looked for among the records, by the origin's number
+at_origin : (msg : List ℕ) (o origin n : ℕ) → o ≡ origin → count_in msg ≡ n
+    → place_for o (parts_of n msg) ≡ place_for origin (record_parts msg)
+at_origin msg o origin n e f = ap₂ (λ (k l : ℕ). place_for k (parts_of l msg)) e (sym f)
+
 pub place-a-requires : goal.place-a-requires
 place-a-requires c =
-    let well : T (well_formed c.args.msg.now) =
-    (gossip-told c.args.msg.now (said.Head _ _ _ _)
-    (sym c.in-Head.is ∙ c.read_gossip-head.ensures) (omega arith)).0 in
-    let counted : count_in c.args.msg.now ≡ c.in-Head.count =
-    head-count c.args.msg.now _ _ _ _
-    (gossip-told c.args.msg.now (said.Head _ _ _ _)
-    (sym c.in-Head.is ∙ c.read_gossip-head.ensures) (omega arith)).1 in
-    let fits : head_long + c.in-Head.count * record_long
-    ≤ length c.args.msg.now =
-    omega (arith, counted, well-long c.args.msg.now (well)) in
-    fits
+    let s = c.args in
+    let h = headed s.msg.now _ _ _ _ (sym c.in-Head.is ∙ c.read_gossip-head.ensures) in
+    omega (arith, h.1, well-long s.msg.now h.0)
 
 pub place-e-requires : goal.place-e-requires
 place-e-requires c =
-    let well : T (well_formed c.args.msg.now) =
-    (gossip-told c.args.msg.now (said.Head _ _ _ _)
-    (sym c.in-Head.is ∙ c.read_gossip-head.ensures) (omega arith)).0 in
-    let counted : count_in c.args.msg.now ≡ c.in-Head.count =
-    head-count c.args.msg.now _ _ _ _
-    (gossip-told c.args.msg.now (said.Head _ _ _ _)
-    (sym c.in-Head.is ∙ c.read_gossip-head.ensures) (omega arith)).1 in
-    let fits : head_long + c.in-Head.count * record_long
-    ≤ length c.args.msg.now =
-    omega (arith, counted, well-long c.args.msg.now (well)) in
-    fits
+    let s = c.args in
+    let h = headed s.msg.now _ _ _ _ (sym c.in-Head.is ∙ c.read_gossip-head.ensures) in
+    omega (arith, h.1, well-long s.msg.now h.0)
 
 pub returns-then-a-e : goal.returns-then-a-e
 unfolding mid
 returns-then-a-e c =
-    let well : T (well_formed c.args.msg.now) =
-    (gossip-told c.args.msg.now (said.Head _ _ _ _)
-    (sym c.in-Head.is ∙ c.read_gossip-head.ensures) (omega arith)).0 in
-    let counted : count_in c.args.msg.now ≡ c.in-Head.count =
-    head-count c.args.msg.now _ _ _ _
-    (gossip-told c.args.msg.now (said.Head _ _ _ _)
-    (sym c.in-Head.is ∙ c.read_gossip-head.ensures) (omega arith)).1 in
-    let first : c.place-a.result
-    ≡ place_for c.args.origin
-    (record_parts c.args.msg.now) =
-    c.place-a.ensures.0
-    ∙ ap₂ (λ (o n : ℕ). place_for o (parts_of n c.args.msg.now))
-    c.wide-o.ensures (sym (counted)) in
-    let second : c.place-e.result ≡ place_for (c.args.origin + 1)
-    (record_parts c.args.msg.now) =
-    c.place-e.ensures.0 ∙ ap₂
-    (λ (o n : ℕ). place_for (o + 1) (parts_of n c.args.msg.now))
-    c.wide-o.ensures (sym (counted)) in
     let s = c.args in
-    let e = sym (first) ∙ c.if-a-e.true ∙ second in
+    let h = headed s.msg.now _ _ _ _ (sym c.in-Head.is ∙ c.read_gossip-head.ensures) in
+    let first = c.place-a.ensures.0 ∙ at_origin s.msg.now _ s.origin _ c.wide-o.ensures h.1 in
+    let second = c.place-e.ensures.0
+    ∙ at_origin s.msg.now _ (s.origin + 1) _ (ap (λ (o : ℕ). o + 1) c.wide-o.ensures) h.1 in
+    let e = sym first ∙ c.if-a-e.true ∙ second in
     record {
-      holds = end-part s.msg.now ∙ sym (none_found s.msg.now (well) s.origin e);
+      holds = end-part s.msg.now ∙ sym (none_found s.msg.now h.0 s.origin e);
       block = refl;
-      starts = rw (start_none s.msg.now (well) s.origin e) (omega arith);
+      starts = rw (start_none s.msg.now h.0 s.origin e) (omega arith);
     }
 
 pub slice_bounds-result-count-2 : goal.slice_bounds-result-count-2
 slice_bounds-result-count-2 c =
-    let well : T (well_formed c.args.msg.now) =
-    (gossip-told c.args.msg.now (said.Head _ _ _ _)
-    (sym c.in-Head.is ∙ c.read_gossip-head.ensures) (omega arith)).0 in
-    let counted : count_in c.args.msg.now ≡ c.in-Head.count =
-    head-count c.args.msg.now _ _ _ _
-    (gossip-told c.args.msg.now (said.Head _ _ _ _)
-    (sym c.in-Head.is ∙ c.read_gossip-head.ensures) (omega arith)).1 in
-    let first : c.place-a.result
-    ≡ place_for c.args.origin
-    (record_parts c.args.msg.now) =
-    c.place-a.ensures.0
-    ∙ ap₂ (λ (o n : ℕ). place_for o (parts_of n c.args.msg.now))
-    c.wide-o.ensures (sym (counted)) in
-    let second : c.place-e.result ≡ place_for (c.args.origin + 1)
-    (record_parts c.args.msg.now) =
-    c.place-e.ensures.0 ∙ ap₂
-    (λ (o n : ℕ). place_for (o + 1) (parts_of n c.args.msg.now))
-    c.wide-o.ensures (sym (counted)) in
-    let rises : c.place-a.result ≤ c.place-e.result =
     let s = c.args in
-    omega (arith, first, second, place-next s.msg.now (well) s.origin) in
-    rises
+    let h = headed s.msg.now _ _ _ _ (sym c.in-Head.is ∙ c.read_gossip-head.ensures) in
+    let first = c.place-a.ensures.0 ∙ at_origin s.msg.now _ s.origin _ c.wide-o.ensures h.1 in
+    let second = c.place-e.ensures.0
+    ∙ at_origin s.msg.now _ (s.origin + 1) _ (ap (λ (o : ℕ). o + 1) c.wide-o.ensures) h.1 in
+    omega (arith, first, second, place-next s.msg.now h.0 s.origin)
 
 pub slice_bounds-result-start-2 : goal.slice_bounds-result-start-2
 slice_bounds-result-start-2 c =
-    let well : T (well_formed c.args.msg.now) =
-    (gossip-told c.args.msg.now (said.Head _ _ _ _)
-    (sym c.in-Head.is ∙ c.read_gossip-head.ensures) (omega arith)).0 in
-    let counted : count_in c.args.msg.now ≡ c.in-Head.count =
-    head-count c.args.msg.now _ _ _ _
-    (gossip-told c.args.msg.now (said.Head _ _ _ _)
-    (sym c.in-Head.is ∙ c.read_gossip-head.ensures) (omega arith)).1 in
-    let first : c.place-a.result
-    ≡ place_for c.args.origin
-    (record_parts c.args.msg.now) =
-    c.place-a.ensures.0
-    ∙ ap₂ (λ (o n : ℕ). place_for o (parts_of n c.args.msg.now))
-    c.wide-o.ensures (sym (counted)) in
-    let second : c.place-e.result ≡ place_for (c.args.origin + 1)
-    (record_parts c.args.msg.now) =
-    c.place-e.ensures.0 ∙ ap₂
-    (λ (o n : ℕ). place_for (o + 1) (parts_of n c.args.msg.now))
-    c.wide-o.ensures (sym (counted)) in
-    let rises : c.place-a.result ≤ c.place-e.result =
     let s = c.args in
-    omega (arith, first, second, place-next s.msg.now (well) s.origin) in
-    rises
+    let h = headed s.msg.now _ _ _ _ (sym c.in-Head.is ∙ c.read_gossip-head.ensures) in
+    let first = c.place-a.ensures.0 ∙ at_origin s.msg.now _ s.origin _ c.wide-o.ensures h.1 in
+    let second = c.place-e.ensures.0
+    ∙ at_origin s.msg.now _ (s.origin + 1) _ (ap (λ (o : ℕ). o + 1) c.wide-o.ensures) h.1 in
+    omega (arith, first, second, place-next s.msg.now h.0 s.origin)
 
 pub returns : goal.returns
 unfolding mid
 returns c =
-    let well : T (well_formed c.args.msg.now) =
-    (gossip-told c.args.msg.now (said.Head _ _ _ _)
-    (sym c.in-Head.is ∙ c.read_gossip-head.ensures) (omega arith)).0 in
-    let counted : count_in c.args.msg.now ≡ c.in-Head.count =
-    head-count c.args.msg.now _ _ _ _
-    (gossip-told c.args.msg.now (said.Head _ _ _ _)
-    (sym c.in-Head.is ∙ c.read_gossip-head.ensures) (omega arith)).1 in
-    let first : c.place-a.result
-    ≡ place_for c.args.origin
-    (record_parts c.args.msg.now) =
-    c.place-a.ensures.0
-    ∙ ap₂ (λ (o n : ℕ). place_for o (parts_of n c.args.msg.now))
-    c.wide-o.ensures (sym (counted)) in
-    let second : c.place-e.result ≡ place_for (c.args.origin + 1)
-    (record_parts c.args.msg.now) =
-    c.place-e.ensures.0 ∙ ap₂
-    (λ (o n : ℕ). place_for (o + 1) (parts_of n c.args.msg.now))
-    c.wide-o.ensures (sym (counted)) in
     let s = c.args in
-    let e = start-some s.msg.now (well) s.origin (λ q. c.if-a-e.false (first ∙ q ∙ sym (second))) in
+    let h = headed s.msg.now _ _ _ _ (sym c.in-Head.is ∙ c.read_gossip-head.ensures) in
+    let first = c.place-a.ensures.0 ∙ at_origin s.msg.now _ s.origin _ c.wide-o.ensures h.1 in
+    let second = c.place-e.ensures.0
+    ∙ at_origin s.msg.now _ (s.origin + 1) _ (ap (λ (o : ℕ). o + 1) c.wide-o.ensures) h.1 in
+    let e = start-some s.msg.now h.0 s.origin (λ q. c.if-a-e.false (first ∙ q ∙ sym second)) in
     record {
-      holds = rw (first, second) (found s.msg.now (well) s.origin);
+      holds = rw (first, second) (found s.msg.now h.0 s.origin);
       block = refl;
       starts = rw (e, ← first) (omega arith);
     }

@@ -1,23 +1,24 @@
 -- `tap_step::stop_tap` meets its contract: each return is a line of a tap's stops, or none of them. Assumes nothing.
-use Prim.Native.Nat.{ℕ, ◌<◌}
+use Prim.Native.Nat.{ℕ, ◌<◌, ◌≤◌}
 use native.Mathlib.Omega.{arith}
 use mathlib.Core.Path.{◌≡◌, refl, sym, ap, subst, ◌∙◌}
-use mathlib.Core.Bool.{false}
+use mathlib.Core.Bool.{Bool, false}
+use mathlib.Core.List.{List}
 use mathlib.Core.Option.{some}
-use lib.Dec.{ltb, leb}
+use lib.Dec.{T}
 use lib.ListN.{length, get_or}
 use borrow.Author.Tests.{lt-ltb, le-ltb, le-leb, lt-leb}
 use Rattle.lists.specs.Tests.{exists}
-use Rattle.limits.specs.Limits.{book_room, log_room}
+use Rattle.limits.specs.Limits.{log_room}
 use Rattle.stamp.specs.Parts.{list_of}
-use Rattle.stamp.specs.Stamp.{Stamp, part, total}
+use Rattle.stamp.specs.Stamp.{Stamp}
 use Rattle.tally.specs.Standing.{among}
-use Rattle.tally.specs.Tap.{tap_of}
+use Rattle.tally.specs.Tap.{tap_of, word_of, tap_fits}
 use Rattle.tally.proofs.WordLaws.{fits_bits, tap-word}
 use Rattle.tally.specs.declared.Tap.{Tap}
-use Rattle.ledger.specs.Record.{stamp_of}
+use Rattle.ledger.specs.Record.{Record, stamp_of}
 use Rattle.book_log.specs.First.{first_with}
-use Rattle.meaning.specs.Book.{known, holds}
+use Rattle.meaning.specs.Book.{Book, holds}
 use Rattle.meaning.specs.BookLaws.{me_in}
 use Rattle.meaning.specs.Reply.{already}
 use Rattle.meaning.specs.Step.{first_stamp}
@@ -27,6 +28,21 @@ use Rattle.lent.specs.Rows.{no_record}
 use Rattle.tap_step.proofs.Found.{tap-found, first-stamp}
 use Rattle.tap_step.proofs.Lines.{line_3, line-counted, line-logged, line_7, line_9, line_clear}
 use Rattle.tap_step.proofs.stop_tap.Goals as goal
+
+-- the word is the tap's
+same : (t : Tap) (w : ℕ) → T (tap_fits t) → w ≡ word_of t → tap_of w ≡ t
+same t w f e = ap tap_of e ∙ tap-word t (fits_bits t f)
+
+-- a word that is not counted is a tap that is not
+uncounted : (b : Book) (t : Tap) (w : ℕ) → tap_of w ≡ t → {a : Bool} → a ≡ among b.counted (tap_of w) → a ≡ false
+    → among b.counted t ≡ false
+uncounted b t w s e f = ap (among b.counted) (sym s) ∙ sym e ∙ f
+
+-- a word that stands nowhere in the log is a tap that does not
+unlogged : (rs : List Record) (t : Tap) (w : ℕ) → tap_of w ≡ t → length rs ≤ first_with w rs
+    → exists (holds t) rs ≡ false
+unlogged rs t w s gone =
+    ap (λ (x : Tap). exists (holds x) rs) (sym s) ∙ tap-found w rs ∙ le-ltb (first_with w rs) (length rs) gone
 
 pub label_unknown-requires : goal.label_unknown-requires
 label_unknown-requires c =
@@ -53,16 +69,12 @@ value_of-requires c = lawful-held c.args.b.now c.requires.t
 
 pub returns-then-is_counted : goal.returns-then-is_counted
 returns-then-is_counted c =
-    let same : tap_of c.pack-w.result ≡ c.args.tap =
-    ap tap_of c.pack-w.ensures ∙ tap-word c.args.tap (fits_bits c.args.tap c.requires.t_2) in
-    let own : (let b = book_of c.args.b.now in
-    ltb (part (known b) b.me) (part (list_of c.args.label) b.me) ≡ false) =
-    sym c.label_unknown.ensures ∙ c.if-label_unknown.false in
     let ws = c.args.b.now in
     let b = book_of ws in
-    let e = ap (among b.counted) (sym (same)) ∙ sym c.is_counted.ensures ∙ c.if-is_counted.true in
+    let e = ap (among b.counted) (sym (same c.args.tap _ c.requires.t_2 c.pack-w.ensures)) ∙ sym c.is_counted.ensures
+    ∙ c.if-is_counted.true in
     line-counted b c.args.tap (list_of c.args.label) (lawful-sound ws c.requires.t) c.requires.t_2 c.requires.t_3
-    (own) e
+    (sym c.label_unknown.ensures ∙ c.if-label_unknown.false) e
     ∙ ap (λ (x : Stamp). some (already x)) (sym c.value_of.ensures)
 
 pub logged_of-n-requires : goal.logged_of-n-requires
@@ -82,30 +94,23 @@ logged_stamp-requires c =
 
 pub returns-then-i-n : goal.returns-then-i-n
 returns-then-i-n c =
-    let same : tap_of c.pack-w.result ≡ c.args.tap =
-    ap tap_of c.pack-w.ensures ∙ tap-word c.args.tap (fits_bits c.args.tap c.requires.t_2) in
-    let own : (let b = book_of c.args.b.now in
-    ltb (part (known b) b.me) (part (list_of c.args.label) b.me) ≡ false) =
-    sym c.label_unknown.ensures ∙ c.if-label_unknown.false in
-    let new : (let s = c.args in among (book_of s.b.now).counted s.tap ≡ false) =
-    let s = c.args in
-    ap (among (book_of s.b.now).counted) (sym (same)) ∙ sym c.is_counted.ensures
-    ∙ c.if-is_counted.false in
-    let within : c.find_logged-i.result < length (book_of c.args.b.now).log =
-    omega (arith, c.logged_of-n.ensures.0, c.if-i-n.true) in
     let ws = c.args.b.now in
     let rs = (book_of ws).log in
-    let t = c.args.tap in
     let w = c.pack-w.result in
-    let lt : first_with w rs < length rs = subst (λ (i : ℕ). i < length rs) c.find_logged-i.ensures (within) in
-    let found = ap (λ (x : Tap). exists (holds x) rs) (sym (same)) ∙ tap-found w rs
+    let s = same c.args.tap _ c.requires.t_2 c.pack-w.ensures in
+    let within : c.find_logged-i.result < length rs = omega (arith, c.logged_of-n.ensures.0, c.if-i-n.true) in
+    let lt : first_with w rs < length rs = subst (λ (i : ℕ). i < length rs) c.find_logged-i.ensures within in
+    let found = ap (λ (x : Tap). exists (holds x) rs) (sym s) ∙ tap-found w rs
     ∙ lt-ltb (first_with w rs) (length rs) lt in
     let says =
     c.logged_stamp.ensures ∙ ap (λ (i : ℕ). stamp_of (get_or rs i no_record)) c.find_logged-i.ensures
     ∙ sym (first-stamp w rs no_record lt)
-    ∙ ap (λ (x : Tap). first_stamp x rs) (same) in
-    line-logged (book_of ws) t (list_of c.args.label) (lawful-sound ws c.requires.t) c.requires.t_2 c.requires.t_3
-    (own) (new) found
+    ∙ ap (λ (x : Tap). first_stamp x rs) s in
+    line-logged (book_of ws) c.args.tap (list_of c.args.label) (lawful-sound ws c.requires.t) c.requires.t_2
+    c.requires.t_3
+    (sym c.label_unknown.ensures ∙ c.if-label_unknown.false)
+    (uncounted (book_of ws) c.args.tap _ (same c.args.tap _ c.requires.t_2 c.pack-w.ensures) c.is_counted.ensures
+    c.if-is_counted.false) found
     ∙ ap (λ (x : Stamp). some (already x)) (sym says)
 
 pub is_spent-requires : goal.is_spent-requires
@@ -113,80 +118,44 @@ is_spent-requires c = c.requires.t
 
 pub returns-then-is_spent : goal.returns-then-is_spent
 returns-then-is_spent c =
-    let same : tap_of c.pack-w.result ≡ c.args.tap =
-    ap tap_of c.pack-w.ensures ∙ tap-word c.args.tap (fits_bits c.args.tap c.requires.t_2) in
-    let own : (let b = book_of c.args.b.now in
-    ltb (part (known b) b.me) (part (list_of c.args.label) b.me) ≡ false) =
-    sym c.label_unknown.ensures ∙ c.if-label_unknown.false in
-    let new : (let s = c.args in among (book_of s.b.now).counted s.tap ≡ false) =
-    let s = c.args in
-    ap (among (book_of s.b.now).counted) (sym (same)) ∙ sym c.is_counted.ensures
-    ∙ c.if-is_counted.false in
-    let none : (let s = c.args in
-    exists (holds s.tap) (book_of s.b.now).log ≡ false) =
-    let rs = (book_of c.args.b.now).log in
-    ap (λ (x : Tap). exists (holds x) rs) (sym (same))
-    ∙ tap-found c.pack-w.result rs
-    ∙ le-ltb (first_with c.pack-w.result rs) (length rs)
-    (omega (arith, c.find_logged-i.ensures, c.logged_of-n.ensures.0, c.if-i-n.false)) in
     let ws = c.args.b.now in
-    line_7 (book_of ws) c.args.tap (list_of c.args.label) (lawful-sound ws c.requires.t) c.requires.t_2
-    c.requires.t_3
-    (own) (new) (none) (sym c.is_spent.ensures ∙ c.if-is_spent.true)
+    let gone : length (book_of ws).log ≤ first_with c.pack-w.result (book_of ws).log =
+    omega (arith, c.find_logged-i.ensures, c.logged_of-n.ensures.0, c.if-i-n.false) in
+    line_7 (book_of ws) c.args.tap (list_of c.args.label) (lawful-sound ws c.requires.t) c.requires.t_2 c.requires.t_3
+    (sym c.label_unknown.ensures ∙ c.if-label_unknown.false)
+    (uncounted (book_of ws) c.args.tap _ (same c.args.tap _ c.requires.t_2 c.pack-w.ensures) c.is_counted.ensures
+    c.if-is_counted.false)
+    (unlogged (book_of ws).log c.args.tap _ (same c.args.tap _ c.requires.t_2 c.pack-w.ensures) gone)
+    (sym c.is_spent.ensures ∙ c.if-is_spent.true)
 
 pub returns-then-log_room-n : goal.returns-then-log_room-n
 returns-then-log_room-n c =
-    let same : tap_of c.pack-w.result ≡ c.args.tap =
-    ap tap_of c.pack-w.ensures ∙ tap-word c.args.tap (fits_bits c.args.tap c.requires.t_2) in
-    let own : (let b = book_of c.args.b.now in
-    ltb (part (known b) b.me) (part (list_of c.args.label) b.me) ≡ false) =
-    sym c.label_unknown.ensures ∙ c.if-label_unknown.false in
-    let new : (let s = c.args in among (book_of s.b.now).counted s.tap ≡ false) =
-    let s = c.args in
-    ap (among (book_of s.b.now).counted) (sym (same)) ∙ sym c.is_counted.ensures
-    ∙ c.if-is_counted.false in
-    let none : (let s = c.args in
-    exists (holds s.tap) (book_of s.b.now).log ≡ false) =
-    let rs = (book_of c.args.b.now).log in
-    ap (λ (x : Tap). exists (holds x) rs) (sym (same))
-    ∙ tap-found c.pack-w.result rs
-    ∙ le-ltb (first_with c.pack-w.result rs) (length rs)
-    (omega (arith, c.find_logged-i.ensures, c.logged_of-n.ensures.0, c.if-i-n.false)) in
-    let unspent : leb book_room (total (known (book_of c.args.b.now))) ≡ false =
-    sym c.is_spent.ensures ∙ c.if-is_spent.false in
     let ws = c.args.b.now in
+    let gone : length (book_of ws).log ≤ first_with c.pack-w.result (book_of ws).log =
+    omega (arith, c.find_logged-i.ensures, c.logged_of-n.ensures.0, c.if-i-n.false) in
     let full = le-leb log_room (length (book_of ws).log)
     (omega (arith, c.log_room.ensures, c.logged_of-n.ensures.0, c.if-log_room-n.true)) in
-    line_9 (book_of ws) c.args.tap (list_of c.args.label) (lawful-sound ws c.requires.t) c.requires.t_2
-    c.requires.t_3
-    (own) (new) (none) (unspent) full
+    line_9 (book_of ws) c.args.tap (list_of c.args.label) (lawful-sound ws c.requires.t) c.requires.t_2 c.requires.t_3
+    (sym c.label_unknown.ensures ∙ c.if-label_unknown.false)
+    (uncounted (book_of ws) c.args.tap _ (same c.args.tap _ c.requires.t_2 c.pack-w.ensures) c.is_counted.ensures
+    c.if-is_counted.false)
+    (unlogged (book_of ws).log c.args.tap _ (same c.args.tap _ c.requires.t_2 c.pack-w.ensures) gone)
+    (sym c.is_spent.ensures ∙ c.if-is_spent.false) full
 
 pub returns : goal.returns
 returns c =
-    let same : tap_of c.pack-w.result ≡ c.args.tap =
-    ap tap_of c.pack-w.ensures ∙ tap-word c.args.tap (fits_bits c.args.tap c.requires.t_2) in
-    let own : (let b = book_of c.args.b.now in
-    ltb (part (known b) b.me) (part (list_of c.args.label) b.me) ≡ false) =
-    sym c.label_unknown.ensures ∙ c.if-label_unknown.false in
-    let new : (let s = c.args in among (book_of s.b.now).counted s.tap ≡ false) =
-    let s = c.args in
-    ap (among (book_of s.b.now).counted) (sym (same)) ∙ sym c.is_counted.ensures
-    ∙ c.if-is_counted.false in
-    let none : (let s = c.args in
-    exists (holds s.tap) (book_of s.b.now).log ≡ false) =
-    let rs = (book_of c.args.b.now).log in
-    ap (λ (x : Tap). exists (holds x) rs) (sym (same))
-    ∙ tap-found c.pack-w.result rs
-    ∙ le-ltb (first_with c.pack-w.result rs) (length rs)
-    (omega (arith, c.find_logged-i.ensures, c.logged_of-n.ensures.0, c.if-i-n.false)) in
-    let unspent : leb book_room (total (known (book_of c.args.b.now))) ≡ false =
-    sym c.is_spent.ensures ∙ c.if-is_spent.false in
     let ws = c.args.b.now in
+    let gone : length (book_of ws).log ≤ first_with c.pack-w.result (book_of ws).log =
+    omega (arith, c.find_logged-i.ensures, c.logged_of-n.ensures.0, c.if-i-n.false) in
     let room = lt-leb log_room (length (book_of ws).log)
     (omega (arith, c.log_room.ensures, c.logged_of-n.ensures.0, c.if-log_room-n.false)) in (
       line_clear (book_of ws) c.args.tap (list_of c.args.label) (lawful-sound ws c.requires.t) c.requires.t_2
           c.requires.t_3
-          (own) (new) (none) (unspent) room,
+          (sym c.label_unknown.ensures ∙ c.if-label_unknown.false)
+          (uncounted (book_of ws) c.args.tap _ (same c.args.tap _ c.requires.t_2 c.pack-w.ensures)
+          c.is_counted.ensures c.if-is_counted.false)
+          (unlogged (book_of ws).log c.args.tap _ (same c.args.tap _ c.requires.t_2 c.pack-w.ensures) gone)
+          (sym c.is_spent.ensures ∙ c.if-is_spent.false) room,
       refl,
       refl,
     )

@@ -1,11 +1,8 @@
 -- `vectors::file::entry_at` meets its contract. Assumes nothing.
 use native.Mathlib.Omega.{arith}
 use mathlib.Core.Path.{◌≡◌, sym, ◌∙◌}
-use Rattle.vectors.specs.File.{Inside, field_at}
 use Rattle.vectors.specs.FileLaws.{field-within, entry_unnamed, entry-end}
 use Rattle.vectors.specs.FileLaws.{entry-unasked, entry-unanswered, entry_whole}
-use Rattle.vectors.specs.declared.file.Field.TheVariants.{Stands}
-use Rattle.vectors.specs.declared.file.Part.{Part}
 use Rattle.vectors.proofs.file.entry_at.Goals as goal
 
 pub returns-in_default : goal.returns-in_default
@@ -20,56 +17,35 @@ returns-then-name c =
 
 pub field_at-second-requires : goal.field_at-second-requires
 field_at-second-requires c =
-    let name_of : Part =
-    c.in-Stands.name in
-    let named : Stands (name_of) ≡ field_at c.args.at 1 c.args.file.now =
-    sym c.in-Stands.is ∙ c.field_at-first.ensures in
-    let name-within : Inside (name_of) c.args.file.now =
-    (field-within c.args.at 1 c.args.file.now c.requires _ (sym (named))).1 in
-    ((name-within).1, omega arith)
+    let s = c.args in
+    let name = field-within s.at 1 s.file.now c.requires _ (sym (sym c.in-Stands.is ∙ c.field_at-first.ensures)) in
+    (name.1.1, omega arith)
 
 pub returns-in_default-second : goal.returns-in_default-second
 returns-in_default-second c =
-    let name_of : Part =
-    c.in-Stands.name in
-    let named : Stands (name_of) ≡ field_at c.args.at 1 c.args.file.now =
-    sym c.in-Stands.is ∙ c.field_at-first.ensures in
     let s = c.args in
-    entry-unasked s.at s.file.now _ (named) c.if-name.false
+    entry-unasked s.at s.file.now _ (sym c.in-Stands.is ∙ c.field_at-first.ensures) c.if-name.false
     (sym c.in_default-second.is ∙ c.field_at-second.ensures)
 
 pub field_at-third-requires : goal.field_at-third-requires
 field_at-third-requires c =
-    let name_of : Part =
-    c.in-Stands.name in
-    let named : Stands (name_of) ≡ field_at c.args.at 1 c.args.file.now =
-    sym c.in-Stands.is ∙ c.field_at-first.ensures in
-    let name-within : Inside (name_of) c.args.file.now =
-    (field-within c.args.at 1 c.args.file.now c.requires _ (sym (named))).1 in
-    let asked : Stands c.in-Stands-second.input ≡ field_at (name_of).end 4 c.args.file.now =
-    sym c.in-Stands-second.is ∙ c.field_at-second.ensures in
-    ((field-within _ 4 c.args.file.now (name-within).1 _ (sym (asked))).1.1, omega arith)
+    let s = c.args in
+    let name = field-within s.at 1 s.file.now c.requires _ (sym (sym c.in-Stands.is ∙ c.field_at-first.ensures)) in (
+      (field-within _ 4 s.file.now name.1.1 _ (sym (sym c.in-Stands-second.is ∙ c.field_at-second.ensures))).1.1,
+      omega
+          arith,
+    )
 
 pub returns-in_default-third : goal.returns-in_default-third
 returns-in_default-third c =
-    let name_of : Part =
-    c.in-Stands.name in
-    let named : Stands (name_of) ≡ field_at c.args.at 1 c.args.file.now =
-    sym c.in-Stands.is ∙ c.field_at-first.ensures in
-    let asked : Stands c.in-Stands-second.input ≡ field_at (name_of).end 4 c.args.file.now =
-    sym c.in-Stands-second.is ∙ c.field_at-second.ensures in
     let s = c.args in
-    entry-unanswered s.at s.file.now _ (named) c.if-name.false _ (asked)
+    entry-unanswered s.at s.file.now _ (sym c.in-Stands.is ∙ c.field_at-first.ensures) c.if-name.false _
+    (sym c.in-Stands-second.is ∙ c.field_at-second.ensures)
     (sym c.in_default-third.is ∙ c.field_at-third.ensures)
 
 pub returns : goal.returns
 returns c =
-    let name_of : Part =
-    c.in-Stands.name in
-    let named : Stands (name_of) ≡ field_at c.args.at 1 c.args.file.now =
-    sym c.in-Stands.is ∙ c.field_at-first.ensures in
-    let asked : Stands c.in-Stands-second.input ≡ field_at (name_of).end 4 c.args.file.now =
-    sym c.in-Stands-second.is ∙ c.field_at-second.ensures in
     let s = c.args in
-    entry_whole s.at s.file.now _ (named) c.if-name.false _ (asked) _
+    entry_whole s.at s.file.now _ (sym c.in-Stands.is ∙ c.field_at-first.ensures) c.if-name.false _
+    (sym c.in-Stands-second.is ∙ c.field_at-second.ensures) _
     (sym c.in-Stands-third.is ∙ c.field_at-third.ensures)
