@@ -5,12 +5,10 @@ use Rattle.stamp.proofs.Step.{at-most-on, at-most-off, at-most-end}
 use Rattle.stamp.proofs.at_most.Goals as goal
 
 pub returns-then-b-i : goal.returns-then-b-i
-returns-then-b-i c =
-    sym (c.loop-i.invariant.1 ∙ at-most-off _ _ c.loop-i.i (omega arith) (omega arith) c.if-b-i.true)
+returns-then-b-i c = sym (c.loop-i.invariant ∙ at-most-off _ _ c.loop-i.i (omega arith) (omega arith) c.if-b-i.true)
 
 pub loop-i-preserved : goal.loop-i-preserved
-loop-i-preserved c =
-    (omega arith, c.loop-i.invariant.1 ∙ at-most-on _ _ c.loop-i.i (omega arith) (omega arith) c.if-b-i.false)
+loop-i-preserved c = c.loop-i.invariant ∙ at-most-on _ _ c.loop-i.i (omega arith) (omega arith) c.if-b-i.false
 
 pub returns : goal.returns
-returns c = sym (c.loop-i.invariant.1 ∙ at-most-end _ _ c.loop-i.i c.loop-i-test.false)
+returns c = sym (c.loop-i.invariant ∙ at-most-end _ _ c.loop-i.i c.loop-i-test.false)

@@ -11,4 +11,4 @@ unfolding patch
 returns c =
     let at = c.args.at in
     let e : at + parts - at ≡ parts = omega arith in
-    rw (c.copy.ensures, c.list_of-s.ensures, e)
+    rw (c.copy_from_slice.ensures.after, c.list_of-s.ensures, e)

@@ -1,29 +1,19 @@
--- `stamp::sum` meets its contract. Assumes nothing.
-use native.Mathlib.Omega.{arith}
-use mathlib.Core.Path.{◌≡◌}
-use lib.ListN.{drop, drop_of_length-le}
+-- `stamp::sum` meets its contract: eight parts of 32 bits are together less than 64 bits hold. Assumes nothing.
+use Rattle.std.proofs.Common.{rules, ◌≡◌, ◌<◌, ◌^◌, arith, ◌∙◌}
+use Rattle.std.specs.List.{sum}
 use Rattle.limits.specs.Limits.{word}
-use Rattle.stamp.specs.Stamp.{total}
 use Rattle.stamp.specs.Laws.{total-below}
-use Rattle.stamp.proofs.Step.{total-more}
+use Rattle.stamp.proofs.Step.{sum-total}
 use Rattle.stamp.proofs.sum.Goals as goal
 
-pub overflow_add-n : goal.overflow_add-n
+pub sum-requires-clause-fits : goal.sum-requires-clause-fits
 unfolding word
-overflow_add-n c =
-    omega (
-      arith,
-      c.loop-i.invariant,
-      total-more c.args.s.now c.loop-i.i (omega arith),
-      total-below word c.args.s.now c.requires.t,
-    )
-
-pub loop-i-preserved : goal.loop-i-preserved
-loop-i-preserved c =
-    omega (arith, c.loop-i.invariant, total-more c.args.s.now c.loop-i.i (omega arith))
+sum-requires-clause-fits c =
+    let s = c.args.s.now in
+    let small : sum s < 2 ^ 64 = omega (arith, sum-total s, total-below word s c.requires.t) in
+    search rules
 
 pub returns : goal.returns
 returns c =
-    let e : total (drop c.loop-i.i c.args.s.now)
-    ≡ 0 = rw (drop_of_length-le c.args.s.now c.loop-i-test.false) in
-    omega (arith, c.loop-i.invariant)
+    let e : c.sum.result ≡ sum c.args.s.now = search rules in
+    e ∙ sum-total c.args.s.now
