@@ -6,21 +6,22 @@ ghost use Rattle.lists.specs.Order.{key_before};
 ghost use Rattle.stamp.specs.Parts.{list_of};
 ghost use Rattle.wire.specs.Kinds.{record_kind, head_long, record_long};
 ghost use Rattle.wire.specs.Read.{read_as};
+ghost use Rattle.wire.specs.Says.{says, head_says, record_says};
 ghost use Rattle.message.specs.Message.{parts_of, in_order, read_gossip};
 ghost use Rattle.message.specs.Find.{part_at, origin_of, below, place_for, Finds};
 
 use numbers::wide;
 use requests::{read_head, read_record};
 use stamp::Parts;
-use wire::{BAD, HEAD_SIZE, RECORD_SIZE, Said};
+use wire::{HEAD_SIZE, Head, RECORD_SIZE, Record, Refusal};
 
 // Where a record's origin stands.
 const ORIGIN: usize = 1;
 
 // Record i, handed on as a part of the message from its own first byte. The head has n screens and stamp m.
-pub fn record_at(msg: &[u8], i: usize, n: usize, m: Parts) -> Said
+pub fn record_at(msg: &[u8], i: usize, n: usize, m: Parts) -> Result<Record, Refusal>
     requires { head_long + (i + 1) * record_long ≤ length msg.now }
-    ensures { result ≡ read_as (record_kind n (list_of m)) (part_at i msg.now) }
+    ensures { says record_says result ≡ read_as (record_kind n (list_of m)) (part_at i msg.now) }
 {
     let at = HEAD_SIZE + i * RECORD_SIZE;
     let e = at + RECORD_SIZE;
@@ -47,56 +48,35 @@ fn in_order(msg: &[u8], count: usize, n: usize, m: Parts) -> bool
     let mut q: u64 = 0;
     let mut i = 0;
     while i < count {
-        let next = record_at(msg, i, n, m);
-        let Said::Record {
-            origin,
-            number,
-            label: _,
-            tap: _,
-        } = next
-        else {
+        let Ok(record) = record_at(msg, i, n, m) else {
             return false;
         };
-        if !comes_before(k, q, origin, number) {
+        if !comes_before(k, q, record.origin, record.number) {
             return false;
         }
-        k = origin;
-        q = number;
+        k = record.origin;
+        q = record.number;
         i += 1;
     }
     true
 }
 
 // The head, if the whole message is well formed.
-pub fn read_gossip(msg: &[u8]) -> Said
-    ensures { result ≡ read_gossip msg.now }
+pub fn read_gossip(msg: &[u8]) -> Result<Head, Refusal>
+    ensures { says head_says result ≡ read_gossip msg.now }
 {
     if msg.len() < HEAD_SIZE {
-        return Said::Unreadable(BAD);
+        return Err(Refusal::Bad);
     }
-    let head = read_head(&msg[0..HEAD_SIZE]);
-    let Said::Head {
-        sender,
-        screens,
-        count,
-        stamp,
-    } = head
-    else {
-        return Said::Unreadable(BAD);
-    };
-    let n = count as usize;
+    let head = read_head(&msg[0..HEAD_SIZE])?;
+    let n = head.count as usize;
     if msg.len() != HEAD_SIZE + n * RECORD_SIZE {
-        return Said::Unreadable(BAD);
+        return Err(Refusal::Bad);
     }
-    if !in_order(msg, n, screens as usize, stamp) {
-        return Said::Unreadable(BAD);
+    if !in_order(msg, n, head.screens as usize, head.stamp) {
+        return Err(Refusal::Bad);
     }
-    Said::Head {
-        sender: sender,
-        screens: screens,
-        count: count,
-        stamp: stamp,
-    }
+    Ok(head)
 }
 
 fn origin_of(part: &[u8]) -> u64
@@ -144,17 +124,10 @@ fn place(msg: &[u8], count: usize, o: u64) -> usize
 pub fn records_of(msg: &[u8], origin: u8) -> &[u8]
     ensures { Finds origin msg.entry result }
 {
-    let head = read_gossip(msg);
-    let Said::Head {
-        sender: _,
-        screens: _,
-        count,
-        stamp: _,
-    } = head
-    else {
+    let Ok(head) = read_gossip(msg) else {
         return &msg[msg.len()..];
     };
-    let n = count as usize;
+    let n = head.count as usize;
     let o = wide(origin);
     let a = place(msg, n, o);
     let e = place(msg, n, o + 1);
