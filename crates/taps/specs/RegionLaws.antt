@@ -3,11 +3,11 @@
 use Rattle.std.specs.Prelude.{ℕ, suc, ◌+◌, ◌-◌, ◌≤◌, ◌<◌, ◌≡◌, refl, not, ◌||◌, List, [], ◌∷◌, ◌++◌, map, T, eqb, ltb}
 use Rattle.std.specs.Prelude.{length, take, drop, replicate}
 use Rattle.std.proofs.Common.{arith, sym, ap, ap₂, subst, ◌∙◌, length-append, length-drop, take-append-drop}
-use Rattle.std.proofs.Common.{length-take-le, take_at}
+use Rattle.std.proofs.Common.{length-take-le, take_at, eqb→eq}
 use Rattle.std.proofs.lemmas.List.{length-map, length-replicate}
 use Rattle.std.proofs.Math.Seq.{drop-append-add}
-use Rattle.lists.specs.TestLaws.{◌∈◌, here, there, clash}
-use Rattle.lists.proofs.ElementLaws.{OneMore, at, later, insert-new}
+use Rattle.lists.specs.TestLaws.{◌∈◌, here, there, clash, same_test}
+use Rattle.lists.proofs.ElementLaws.{OneMore, at, later, insert-new, eq→eqb}
 use Rattle.lists.proofs.Neighbours.{map-rising}
 use Rattle.lists.specs.Order.{key_before, rising, insert}
 use Rattle.lists.proofs.Sorted.{map-insert}
@@ -67,13 +67,17 @@ pub rising-taps : (n : ℕ) (r : List ℕ) → rising fields (taps_at n r) ≡ r
 unfolding taps_at word_key
 rising-taps n r = map-rising tap_of word_key fields (λ w. refl) (take n r)
 
-pub among-taps : (n : ℕ) (r : List ℕ) (w : ℕ) → among (taps_at n r) (tap_of w) ≡ exists (eqb w) (take n r)
+eqb-turned : (v w : ℕ) → eqb v w ≡ eqb w v
+eqb-turned v w =
+    same_test (eqb v w) (eqb w v) (λ t. eq→eqb w v (sym (eqb→eq v w t))) (λ t. eq→eqb v w (sym (eqb→eq w v t)))
+
+pub among-taps : (n : ℕ) (r : List ℕ) (w : ℕ) → among (taps_at n r) (tap_of w) ≡ exists (λ v. eqb v w) (take n r)
 unfolding taps_at among
 among-taps n r w = go (take n r)
   where
-    go : (l : List ℕ) → exists (same_tap (tap_of w)) (map tap_of l) ≡ exists (eqb w) l
+    go : (l : List ℕ) → exists (same_tap (tap_of w)) (map tap_of l) ≡ exists (λ v. eqb v w) l
     go [] = refl
-    go (v ∷ l) = ap₂ ◌||◌ (tap-equal w v) (go l)
+    go (v ∷ l) = ap₂ ◌||◌ (tap-equal w v ∙ eqb-turned w v) (go l)
 
 pub inserted-by-words : (n w : ℕ) (r : List ℕ) → inserted_at n w r ≡ insert word_key w (take n r) ++ drop (n + 1) r
 unfolding inserted_at taps_at word_key
