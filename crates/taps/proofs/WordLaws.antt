@@ -128,9 +128,10 @@ module _ (r : List ℕ) (n i w : ℕ) (le : i ≤ n) (lt : n < length r) where
       IsPartitionPoint (λ v. ltb v w ≡ true) (λ v. ltb v w ≡ false) (take n r) i
       → T (not (among (taps_at n r) (tap_of w)))
       → set (paste r (i + 1) (drop i r) (n - i)) i w ≡ inserted_at n w r
+  unfolding taps_at
   put-in-place p new =
       moved-up
       ∙ sym (inserted-by-words n w r
       ∙ ap (λ (l : List ℕ). l ++ drop (n + 1) r)
       (insert-at w (take n r) i p (omega (arith, length-take-le n r (omega arith)))
-      (subst (λ (c : Bool). T (not c)) (among-taps n r w) new)))
+      (subst (λ (c : Bool). T (not c)) (among-taps (take n r) w) new)))

@@ -6,16 +6,15 @@ ghost use Rattle.lists.specs.Order.{rising};
 ghost use Rattle.lists.specs.Tests.{every};
 ghost use Rattle.tally.specs.Standing.{among};
 ghost use Rattle.tally.specs.Tap.{fields, tap_of, tap_fits};
-ghost use Rattle.taps.specs.Region.{taps_at, inserted_at};
+ghost use Rattle.taps.specs.Region.{taps_in, taps_at, inserted_at};
 
 use tally::{fits, unpack};
 
-// Whether the tap of w is among the first n.
-pub fn has(r: &[u64], n: usize, w: u64) -> bool
-    requires { n ≤ length r.now }
-    ensures { result ≡ among (taps_at n r.now) (tap_of w) }
+// Whether the tap of w is one of the words'.
+pub fn has(words: &[u64], w: u64) -> bool
+    ensures { result ≡ among (taps_in words.now) (tap_of w) }
 {
-    r[..n].contains(&w)
+    words.contains(&w)
 }
 
 // Puts a new word in its place among the first n: the larger words move up by one.
@@ -30,19 +29,16 @@ pub fn insert_word(r: &mut [u64], n: usize, w: u64)
     r[place] = w;
 }
 
-// Whether the first n are strictly rising: each word above the one before it.
-pub fn rising_words(r: &[u64], n: usize) -> bool
-    requires { n ≤ length r.now }
-    ensures { result ≡ rising fields (taps_at n r.now) }
+// Whether the words are strictly rising: each above the one before it.
+pub fn rising_words(words: &[u64]) -> bool
+    ensures { result ≡ rising fields (taps_in words.now) }
 {
-    r[..n].is_sorted_by(|v, w| v < w)
+    words.is_sorted_by(|v, w| v < w)
 }
 
-// Whether each of the first n keeps a tap's field rules.
-#[tactic(auto, unfolding(crate::specs::Region::taps_at))]
-pub fn all_fit(r: &[u64], n: usize) -> bool
-    requires { n ≤ length r.now }
-    ensures { result ≡ every tap_fits (taps_at n r.now) }
+// Whether each word's tap keeps the field rules.
+pub fn all_fit(words: &[u64]) -> bool
+    ensures { result ≡ every tap_fits (taps_in words.now) }
 {
-    r[..n].iter().map(|&w| unpack(w)).all(fits)
+    words.iter().map(|&w| unpack(w)).all(fits)
 }

@@ -4,10 +4,7 @@ use Rattle.lists.specs.Order.{same_key}
 use Rattle.limits.specs.Limits.{prompt_count}
 use Rattle.tally.specs.Standing.{afresh}
 use Rattle.tally.proofs.StandingLaws.{afresh-length}
-use mathlib.Core.List.{map}
-use lib.ListN.{take}
-use Rattle.tally.specs.Tap.{tap_of}
-use Rattle.taps.specs.Region.{taps_at}
+use Rattle.taps.specs.Region.{taps_in}
 use Rattle.prompts.specs.Region.{standings_at, standing_words}
 use Rattle.prompts.specs.RegionLaws.{words_standings, length_standings, standings-fresh, same-counts}
 use Rattle.prompts.proofs.Turn.{pointwise-key}
@@ -20,14 +17,13 @@ tabulate-requires c =
     record {
       table_len = search rules;
       table_value = standings-fresh;
-      few = search rules;
+      few = c.requires.few;
     }
 
 pub returns : goal.returns
-unfolding taps_at
 returns c =
     let r = c.args.r.now in
-    let ts = map tap_of (take c.args.n c.args.taps.now) in
+    let ts = taps_in c.args.taps.now in
     let table = sym (words_standings _ c.tabulate.ensures.table_len_2)
     ∙ ap standing_words c.tabulate.ensures.table_after in
     c.eq.ensures ∙ pointwise-key r _ ∙ ap₂ same_key (sym (words_standings r c.requires.r_len)) table

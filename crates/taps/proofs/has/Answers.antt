@@ -4,4 +4,4 @@ use Rattle.taps.specs.RegionLaws.{among-taps}
 use Rattle.taps.proofs.has.Goals as goal
 
 pub returns : goal.returns
-returns c = c.contains.ensures.value ∙ sym (among-taps c.args.n c.args.r.now c.args.w)
+returns c = c.contains.ensures.value ∙ sym (among-taps c.args.words.now c.args.w)
