@@ -11,7 +11,6 @@ ghost use Rattle.book_log.specs.Walk.{row_record};
 ghost use Rattle.log_edit.specs.Merge.{Fresh, Parted, Shifted, Slid, merged, Closed};
 
 use book_log::{ROW, goes, stands_before};
-use stamp::copy;
 
 // Whether the i-th row of r stands after a row.
 fn after_at(r: &[u64], i: usize, row: &[u64]) -> bool
@@ -59,7 +58,7 @@ fn put_row(r: &mut [u64], i: usize, row: &[u64])
 {
     let at = i * ROW;
     let e = at + ROW;
-    copy(&mut r[at..e], row);
+    r[at..e].copy_from_slice(row);
 }
 
 // Of the first i rows, those that stand after a row moved up over a gap of rows behind them, and the row put below
@@ -107,7 +106,7 @@ fn move_row(r: &mut [u64], from: usize, to: usize)
     let mut row = [0u64; ROW];
     let at = from * ROW;
     let e = at + ROW;
-    copy(&mut row, &r[at..e]);
+    row.copy_from_slice(&r[at..e]);
     put_row(r, to, &row);
 }
 

@@ -10,7 +10,6 @@ ghost use Rattle.wire.specs.Says.{says, head_says, record_says};
 ghost use Rattle.message.specs.Message.{parts_of, in_order, read_gossip};
 ghost use Rattle.message.specs.Find.{part_at, origin_of, below, place_for, Finds};
 
-use numbers::wide;
 use requests::{read_head, read_record};
 use stamp::Parts;
 use wire::{HEAD_SIZE, Head, RECORD_SIZE, Record, Refusal};
@@ -83,7 +82,7 @@ fn origin_of(part: &[u8]) -> u64
     requires { length part.now ≡ record_long }
     ensures { result ≡ origin_of part.now }
 {
-    wide(part[ORIGIN])
+    u64::from(part[ORIGIN])
 }
 
 // One if the part's origin is below o, and else zero.
@@ -128,7 +127,7 @@ pub fn records_of(msg: &[u8], origin: u8) -> &[u8]
         return &msg[msg.len()..];
     };
     let n = head.count as usize;
-    let o = wide(origin);
+    let o = u64::from(origin);
     let a = place(msg, n, o);
     let e = place(msg, n, o + 1);
     if a == e {

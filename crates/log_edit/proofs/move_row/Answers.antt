@@ -17,4 +17,4 @@ unfolding mid
 returns c =
     let at = c.args.from * row_long in
     let e : at + row_long - at ≡ row_long = omega arith in
-    rw (c.put_row.ensures, c.copy.ensures, e)
+    rw (c.put_row.ensures, c.copy_from_slice.ensures.after, e)

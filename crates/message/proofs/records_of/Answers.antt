@@ -57,9 +57,9 @@ unfolding mid
 returns-then-a-e c =
     let s = c.args in
     let h = headed s.msg.now _ _ _ _ c.in-Ok.ensures in
-    let first = c.place-a.ensures.0 ∙ at_origin s.msg.now _ s.origin _ c.wide-o.ensures h.1 in
+    let first = c.place-a.ensures.0 ∙ at_origin s.msg.now _ s.origin _ c.from-o.ensures h.1 in
     let second = c.place-e.ensures.0
-    ∙ at_origin s.msg.now _ (s.origin + 1) _ (ap (λ (o : ℕ). o + 1) c.wide-o.ensures) h.1 in
+    ∙ at_origin s.msg.now _ (s.origin + 1) _ (ap (λ (o : ℕ). o + 1) c.from-o.ensures) h.1 in
     let e = sym first ∙ c.if-a-e.true ∙ second in
     record {
       holds = end-part s.msg.now ∙ sym (none_found s.msg.now h.0 s.origin e);
@@ -71,18 +71,18 @@ pub slice_bounds-result-count-2 : goal.slice_bounds-result-count-2
 slice_bounds-result-count-2 c =
     let s = c.args in
     let h = headed s.msg.now _ _ _ _ c.in-Ok.ensures in
-    let first = c.place-a.ensures.0 ∙ at_origin s.msg.now _ s.origin _ c.wide-o.ensures h.1 in
+    let first = c.place-a.ensures.0 ∙ at_origin s.msg.now _ s.origin _ c.from-o.ensures h.1 in
     let second = c.place-e.ensures.0
-    ∙ at_origin s.msg.now _ (s.origin + 1) _ (ap (λ (o : ℕ). o + 1) c.wide-o.ensures) h.1 in
+    ∙ at_origin s.msg.now _ (s.origin + 1) _ (ap (λ (o : ℕ). o + 1) c.from-o.ensures) h.1 in
     omega (arith, first, second, place-next s.msg.now h.0 s.origin)
 
 pub slice_bounds-result-start-2 : goal.slice_bounds-result-start-2
 slice_bounds-result-start-2 c =
     let s = c.args in
     let h = headed s.msg.now _ _ _ _ c.in-Ok.ensures in
-    let first = c.place-a.ensures.0 ∙ at_origin s.msg.now _ s.origin _ c.wide-o.ensures h.1 in
+    let first = c.place-a.ensures.0 ∙ at_origin s.msg.now _ s.origin _ c.from-o.ensures h.1 in
     let second = c.place-e.ensures.0
-    ∙ at_origin s.msg.now _ (s.origin + 1) _ (ap (λ (o : ℕ). o + 1) c.wide-o.ensures) h.1 in
+    ∙ at_origin s.msg.now _ (s.origin + 1) _ (ap (λ (o : ℕ). o + 1) c.from-o.ensures) h.1 in
     omega (arith, first, second, place-next s.msg.now h.0 s.origin)
 
 pub returns : goal.returns
@@ -90,9 +90,9 @@ unfolding mid
 returns c =
     let s = c.args in
     let h = headed s.msg.now _ _ _ _ c.in-Ok.ensures in
-    let first = c.place-a.ensures.0 ∙ at_origin s.msg.now _ s.origin _ c.wide-o.ensures h.1 in
+    let first = c.place-a.ensures.0 ∙ at_origin s.msg.now _ s.origin _ c.from-o.ensures h.1 in
     let second = c.place-e.ensures.0
-    ∙ at_origin s.msg.now _ (s.origin + 1) _ (ap (λ (o : ℕ). o + 1) c.wide-o.ensures) h.1 in
+    ∙ at_origin s.msg.now _ (s.origin + 1) _ (ap (λ (o : ℕ). o + 1) c.from-o.ensures) h.1 in
     let e = start-some s.msg.now h.0 s.origin (λ q. c.if-a-e.false (first ∙ q ∙ sym second)) in
     record {
       holds = rw (first, second) (found s.msg.now h.0 s.origin);

@@ -47,48 +47,48 @@ unlogged rs t w s gone =
 pub label_unknown-requires : goal.label_unknown-requires
 label_unknown-requires c =
     record {
-      held = lawful-held c.args.b.now c.requires.t;
-      b_bound = me_in (book_of c.args.b.now) (lawful-sound c.args.b.now c.requires.t);
+      held = lawful-held c.args.b.now c.requires.sound;
+      b_bound = me_in (book_of c.args.b.now) (lawful-sound c.args.b.now c.requires.sound);
     }
 
 pub returns-then-label_unknown : goal.returns-then-label_unknown
 returns-then-label_unknown c =
     let ws = c.args.b.now in
-    line_3 (book_of ws) c.args.tap (list_of c.args.label) (lawful-sound ws c.requires.t) c.requires.t_2
-    c.requires.t_3
+    line_3 (book_of ws) c.args.asked.tap (list_of c.args.asked.label) (lawful-sound ws c.requires.sound) c.requires.tap_fits
+    c.requires.label_fits
     (sym c.label_unknown.ensures ∙ c.if-label_unknown.true)
 
 pub pack-w-requires : goal.pack-w-requires
-pack-w-requires c = fits_bits c.args.tap c.requires.t_2
+pack-w-requires c = fits_bits c.args.asked.tap c.requires.tap_fits
 
 pub is_counted-requires : goal.is_counted-requires
-is_counted-requires c = lawful-held c.args.b.now c.requires.t
+is_counted-requires c = lawful-held c.args.b.now c.requires.sound
 
 pub value_of-requires : goal.value_of-requires
-value_of-requires c = lawful-held c.args.b.now c.requires.t
+value_of-requires c = lawful-held c.args.b.now c.requires.sound
 
 pub returns-then-is_counted : goal.returns-then-is_counted
 returns-then-is_counted c =
     let ws = c.args.b.now in
     let b = book_of ws in
-    let e = ap (among b.counted) (sym (same c.args.tap _ c.requires.t_2 c.pack-w.ensures)) ∙ sym c.is_counted.ensures
+    let e = ap (among b.counted) (sym (same c.args.asked.tap _ c.requires.tap_fits c.pack-w.ensures)) ∙ sym c.is_counted.ensures
     ∙ c.if-is_counted.true in
-    line-counted b c.args.tap (list_of c.args.label) (lawful-sound ws c.requires.t) c.requires.t_2 c.requires.t_3
+    line-counted b c.args.asked.tap (list_of c.args.asked.label) (lawful-sound ws c.requires.sound) c.requires.tap_fits c.requires.label_fits
     (sym c.label_unknown.ensures ∙ c.if-label_unknown.false) e
     ∙ ap (λ (x : Stamp). some (already x)) (sym c.value_of.ensures)
 
 pub logged_of-n-requires : goal.logged_of-n-requires
-logged_of-n-requires c = lawful-held c.args.b.now c.requires.t
+logged_of-n-requires c = lawful-held c.args.b.now c.requires.sound
 
 pub find_logged-i-requires : goal.find_logged-i-requires
-find_logged-i-requires c = lawful-held c.args.b.now c.requires.t
+find_logged-i-requires c = lawful-held c.args.b.now c.requires.sound
 
 pub logged_stamp-requires : goal.logged_stamp-requires
 logged_stamp-requires c =
     let within : c.find_logged-i.result < length (book_of c.args.b.now).log =
     omega (arith, c.logged_of-n.ensures.0, c.if-i-n.true) in
     record {
-      t = c.requires.t;
+      t = c.requires.sound;
       i_in_bounds = within;
     }
 
@@ -97,7 +97,7 @@ returns-then-i-n c =
     let ws = c.args.b.now in
     let rs = (book_of ws).log in
     let w = c.pack-w.result in
-    let s = same c.args.tap _ c.requires.t_2 c.pack-w.ensures in
+    let s = same c.args.asked.tap _ c.requires.tap_fits c.pack-w.ensures in
     let within : c.find_logged-i.result < length rs = omega (arith, c.logged_of-n.ensures.0, c.if-i-n.true) in
     let lt : first_with w rs < length rs = subst (λ (i : ℕ). i < length rs) c.find_logged-i.ensures within in
     let found = ap (λ (x : Tap). exists (holds x) rs) (sym s) ∙ tap-found w rs
@@ -106,26 +106,26 @@ returns-then-i-n c =
     c.logged_stamp.ensures ∙ ap (λ (i : ℕ). stamp_of (get_or rs i no_record)) c.find_logged-i.ensures
     ∙ sym (first-stamp w rs no_record lt)
     ∙ ap (λ (x : Tap). first_stamp x rs) s in
-    line-logged (book_of ws) c.args.tap (list_of c.args.label) (lawful-sound ws c.requires.t) c.requires.t_2
-    c.requires.t_3
+    line-logged (book_of ws) c.args.asked.tap (list_of c.args.asked.label) (lawful-sound ws c.requires.sound) c.requires.tap_fits
+    c.requires.label_fits
     (sym c.label_unknown.ensures ∙ c.if-label_unknown.false)
-    (uncounted (book_of ws) c.args.tap _ (same c.args.tap _ c.requires.t_2 c.pack-w.ensures) c.is_counted.ensures
+    (uncounted (book_of ws) c.args.asked.tap _ (same c.args.asked.tap _ c.requires.tap_fits c.pack-w.ensures) c.is_counted.ensures
     c.if-is_counted.false) found
     ∙ ap (λ (x : Stamp). some (already x)) (sym says)
 
 pub is_spent-requires : goal.is_spent-requires
-is_spent-requires c = c.requires.t
+is_spent-requires c = c.requires.sound
 
 pub returns-then-is_spent : goal.returns-then-is_spent
 returns-then-is_spent c =
     let ws = c.args.b.now in
     let gone : length (book_of ws).log ≤ first_with c.pack-w.result (book_of ws).log =
     omega (arith, c.find_logged-i.ensures, c.logged_of-n.ensures.0, c.if-i-n.false) in
-    line_7 (book_of ws) c.args.tap (list_of c.args.label) (lawful-sound ws c.requires.t) c.requires.t_2 c.requires.t_3
+    line_7 (book_of ws) c.args.asked.tap (list_of c.args.asked.label) (lawful-sound ws c.requires.sound) c.requires.tap_fits c.requires.label_fits
     (sym c.label_unknown.ensures ∙ c.if-label_unknown.false)
-    (uncounted (book_of ws) c.args.tap _ (same c.args.tap _ c.requires.t_2 c.pack-w.ensures) c.is_counted.ensures
+    (uncounted (book_of ws) c.args.asked.tap _ (same c.args.asked.tap _ c.requires.tap_fits c.pack-w.ensures) c.is_counted.ensures
     c.if-is_counted.false)
-    (unlogged (book_of ws).log c.args.tap _ (same c.args.tap _ c.requires.t_2 c.pack-w.ensures) gone)
+    (unlogged (book_of ws).log c.args.asked.tap _ (same c.args.asked.tap _ c.requires.tap_fits c.pack-w.ensures) gone)
     (sym c.is_spent.ensures ∙ c.if-is_spent.true)
 
 pub returns-then-log_room-n : goal.returns-then-log_room-n
@@ -135,11 +135,11 @@ returns-then-log_room-n c =
     omega (arith, c.find_logged-i.ensures, c.logged_of-n.ensures.0, c.if-i-n.false) in
     let full = le-leb log_room (length (book_of ws).log)
     (omega (arith, c.log_room.ensures, c.logged_of-n.ensures.0, c.if-log_room-n.true)) in
-    line_9 (book_of ws) c.args.tap (list_of c.args.label) (lawful-sound ws c.requires.t) c.requires.t_2 c.requires.t_3
+    line_9 (book_of ws) c.args.asked.tap (list_of c.args.asked.label) (lawful-sound ws c.requires.sound) c.requires.tap_fits c.requires.label_fits
     (sym c.label_unknown.ensures ∙ c.if-label_unknown.false)
-    (uncounted (book_of ws) c.args.tap _ (same c.args.tap _ c.requires.t_2 c.pack-w.ensures) c.is_counted.ensures
+    (uncounted (book_of ws) c.args.asked.tap _ (same c.args.asked.tap _ c.requires.tap_fits c.pack-w.ensures) c.is_counted.ensures
     c.if-is_counted.false)
-    (unlogged (book_of ws).log c.args.tap _ (same c.args.tap _ c.requires.t_2 c.pack-w.ensures) gone)
+    (unlogged (book_of ws).log c.args.asked.tap _ (same c.args.asked.tap _ c.requires.tap_fits c.pack-w.ensures) gone)
     (sym c.is_spent.ensures ∙ c.if-is_spent.false) full
 
 pub returns : goal.returns
@@ -149,13 +149,12 @@ returns c =
     omega (arith, c.find_logged-i.ensures, c.logged_of-n.ensures.0, c.if-i-n.false) in
     let room = lt-leb log_room (length (book_of ws).log)
     (omega (arith, c.log_room.ensures, c.logged_of-n.ensures.0, c.if-log_room-n.false)) in (
-      line_clear (book_of ws) c.args.tap (list_of c.args.label) (lawful-sound ws c.requires.t) c.requires.t_2
-          c.requires.t_3
+      line_clear (book_of ws) c.args.asked.tap (list_of c.args.asked.label) (lawful-sound ws c.requires.sound) c.requires.tap_fits
+          c.requires.label_fits
           (sym c.label_unknown.ensures ∙ c.if-label_unknown.false)
-          (uncounted (book_of ws) c.args.tap _ (same c.args.tap _ c.requires.t_2 c.pack-w.ensures)
+          (uncounted (book_of ws) c.args.asked.tap _ (same c.args.asked.tap _ c.requires.tap_fits c.pack-w.ensures)
           c.is_counted.ensures c.if-is_counted.false)
-          (unlogged (book_of ws).log c.args.tap _ (same c.args.tap _ c.requires.t_2 c.pack-w.ensures) gone)
+          (unlogged (book_of ws).log c.args.asked.tap _ (same c.args.asked.tap _ c.requires.tap_fits c.pack-w.ensures) gone)
           (sym c.is_spent.ensures ∙ c.if-is_spent.false) room,
-      refl,
       refl,
     )
