@@ -7,9 +7,8 @@ use Rattle.limits.specs.Limits.{log_room}
 use Rattle.wire.specs.Kinds.{head_kind}
 use Rattle.wire.proofs.ReadLaws.{untold}
 use Rattle.wire.proofs.Returns.{failed, passed}
-use Rattle.message.specs.Tags.{not-this}
 use Rattle.message.proofs.Lines.{too_short, headless, wrong-long, disorder, whole, few}
-use borrow.Enum.Refused.{opened}
+use Rattle.message.proofs.read_gossip.Goals.{then-msg-n-via-then-msg-n, then-msg-n-via-else-msg-n+then-not-in_order}
 use Rattle.message.proofs.read_gossip.Goals as goal
 
 pub returns-then-msg-lt-HEAD_SIZE : goal.returns-then-msg-lt-HEAD_SIZE
@@ -20,7 +19,7 @@ unfolding head_kind
 returns-in_default c =
     let s = c.args in
     headless s.msg.now (untold head_kind _ c.read_head-head.result c.read_head-head.ensures
-    (not-this _ _ (opened c.in_default.in_default-own.keys2) tt))
+    (c.in_default.not-Head _ _ _ _))
 
 pub overflow_mul-n : goal.overflow_mul-n
 overflow_mul-n c =
@@ -38,14 +37,13 @@ overflow_add-n c =
 
 pub returns-then-msg-n : goal.returns-then-msg-n
 returns-then-msg-n c =
-    let s = c.args in
-    wrong-long s.msg.now _ _ _ _ (sym c.in-Head.is ∙ c.read_head-head.ensures) c.if-msg-n.true
-
-pub returns-then-not-in_order : goal.returns-then-not-in_order
-returns-then-not-in_order c =
-    let s = c.args in
-    disorder s.msg.now _ _ _ _ (sym c.in-Head.is ∙ c.read_head-head.ensures) c.if-msg-n.false
-    (failed c.in_order.ensures c.if-not-in_order.true-raw)
+    let msg = c.args.msg.now in
+    let read = sym c.in-Head.is ∙ c.read_head-head.ensures in
+    elim c.then-msg-n.branch [
+      | then-msg-n-via-then-msg-n w ↦ wrong-long msg _ _ _ _ read w.if-msg-n.true
+      | then-msg-n-via-else-msg-n+then-not-in_order w ↦ disorder msg _ _ _ _ read w.if-msg-n.false
+          (failed w.in_order.ensures w.if-not-in_order.true-raw)
+    ]
 
 pub returns : goal.returns
 returns c =
