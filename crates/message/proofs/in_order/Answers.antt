@@ -22,17 +22,19 @@ pub returns-then-le : goal.returns-then-le
 returns-then-le c =
     let s = c.args in
     let l = c.loop-i in
-    let fact : key_before (l.last.0 ∷ l.last.1 ∷ []) (c.in-Record.origin ∷ c.in-Record.number ∷ []) ≡ false = search rules in
+    let r = c.in-Record in
+    let fact : key_before (l.last.0 ∷ l.last.1 ∷ []) (r.origin ∷ r.number ∷ []) ≡ false = search rules in
     sym (l.invariant ∙ pass_falls s.n (list_of s.m) s.count s.msg.now l.i (omega arith) _ _ _ _
-    _ (sym c.in-Record.is ∙ c.record_at.ensures) fact)
+    _ (sym r.is ∙ c.record_at.ensures) fact)
 
 pub loop-i-preserved : goal.loop-i-preserved
 loop-i-preserved c =
     let s = c.args in
     let l = c.loop-i in
-    let fact : key_before (l.last.0 ∷ l.last.1 ∷ []) (c.in-Record.origin ∷ c.in-Record.number ∷ []) ≡ true = search rules in
+    let r = c.in-Record in
+    let fact : key_before (l.last.0 ∷ l.last.1 ∷ []) (r.origin ∷ r.number ∷ []) ≡ true = search rules in
     l.invariant ∙ pass_on s.n (list_of s.m) s.count s.msg.now l.i (omega arith) _ _ _ _ _
-    (sym c.in-Record.is ∙ c.record_at.ensures) fact
+    (sym r.is ∙ c.record_at.ensures) fact
 
 pub returns : goal.returns
 returns c =

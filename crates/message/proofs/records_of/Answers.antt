@@ -28,7 +28,8 @@ returns-in_default c =
       starts = rw (start-refused s.origin s.msg.now e) (omega arith);
     }
 
-module _ (msg : List ℕ) {sender screens count : ℕ} {m : Parts} (read : said.Head sender screens count m ≡ read_gossip msg)
+module _ (msg : List ℕ) {sender screens count : ℕ} {m : Parts}
+    (read : said.Head sender screens count m ≡ read_gossip msg)
   where
     -- a head is read: the message is well formed, and its count is the head's
     headed : T (well_formed msg) × (count_in msg ≡ count)
