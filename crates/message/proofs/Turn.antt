@@ -2,7 +2,6 @@
 use Prim.Native.Nat.{ℕ, zero, suc, ◌+◌, ◌≤◌, ◌<◌}
 use native.Mathlib.Omega.{arith}
 use mathlib.Core.Path.{◌≡◌, refl, sym, ap, subst, ◌∙◌}
-use mathlib.Core.Logic.{◌≢◌}
 use mathlib.Core.Bool.{Bool, true, false, ◌&&◌, and_assoc}
 use mathlib.Core.List.{List, [], ◌∷◌, map}
 use lib.Dec.{T, ltb}
@@ -22,10 +21,12 @@ use Rattle.ledger.specs.Record.{Record, place}
 use Rattle.ledger.proofs.RecordLaws.{obeys}
 use Rattle.wire.specs.Kinds.{Kind, record_kind, head_long, record_long}
 use Rattle.wire.proofs.Laws.{lawful_record}
-use Rattle.wire.specs.Read.{line_of, readable, read_as}
-use Rattle.wire.proofs.ReadLaws.{told, told_line, untold}
-use Rattle.wire.specs.declared.Said.{Said}
-use Rattle.wire.specs.declared.Said.TheVariants as said
+use Rattle.wire.specs.Read.{readable, read_as}
+use Rattle.wire.proofs.ReadLaws.{told, told_line, unread}
+use Rattle.std.specs.Prelude.{Ok, Err}
+use Rattle.wire.specs.declared.Refusal.{Refusal}
+use Rattle.wire.specs.Says.{Said}
+use Rattle.wire.specs.Says as said
 use Rattle.message.specs.Message.{parts_of, record_from, in_order}
 use Rattle.message.specs.Find.{part_at, origin_of, below}
 use Rattle.std.specs.Prelude.{◌/◌, ◌*◌, ◌-◌, take, get_or, nat_lt, count_by}
@@ -95,22 +96,20 @@ module _ (n : ℕ) (m : Stamp) (count : ℕ) (bytes : List ℕ) (i : ℕ) (h : i
   unfolding rises_from left
   step = rw (next-part count bytes i h)
 
-  pub pass_unread : (v : Said) → v ≡ read_as (record_kind n m) (part_at i bytes)
-      → v ≢ (record_kind n m).said (line_of (record_kind n m) (part_at i bytes))
+  pub pass_unread : (r : Refusal) → Err r ≡ read_as (record_kind n m) (part_at i bytes)
       → rises_from (record_kind n m) last (drop i (parts_of count bytes)) ≡ false
   unfolding left
-  pass_unread v read other = step ∙ rw (untold (record_kind n m) (part_at i bytes) v read other)
+  pass_unread r read = step ∙ rw ((unread (record_kind n m) (part_at i bytes) r read).0)
 
-  module _ (o q : ℕ) (l : Parts) (t : Tap) (read : said.Record o q l t ≡ read_as (record_kind n m) (part_at i bytes))
+  module _ (o q : ℕ) (l : Parts) (t : Tap) (read : Ok (said.Record o q l t) ≡ read_as (record_kind n m) (part_at i bytes))
     where
       known : readable (record_kind n m) (part_at i bytes) ≡ true
       known = is_true (readable (record_kind n m) (part_at i bytes))
-          (told (record_kind n m) (part_at i bytes) (said.Record o q l t) read (omega arith)).0
+          (told (record_kind n m) (part_at i bytes) (said.Record o q l t) read).0
 
       stands : place (record_from (record_kind n m) (part_at i bytes)) ≡ o ∷ q ∷ []
       unfolding record_from
-      stands = rw (told_line (record_kind n m) (part_at i bytes) (said.Record o q l t) read (lawful_record n m)
-          (omega arith))
+      stands = rw (told_line (record_kind n m) (part_at i bytes) (said.Record o q l t) read (lawful_record n m))
 
       pub pass_falls : key_before last (o ∷ q ∷ []) ≡ false
           → rises_from (record_kind n m) last (drop i (parts_of count bytes)) ≡ false

@@ -5,20 +5,21 @@ ghost use Rattle.std.specs.Prelude.{◌≡◌, ◌+◌, ◌*◌, ◌≤◌, leng
 ghost use Rattle.stamp.specs.Parts.{list_of};
 ghost use Rattle.wire.specs.Kinds.{record_kind, head_long, record_long};
 ghost use Rattle.wire.specs.Read.{read_as};
+ghost use Rattle.wire.specs.Says.{says, head_says, record_says};
 ghost use Rattle.message.specs.Message.{parts_of, in_order, read_gossip};
 ghost use Rattle.message.specs.Find.{part_at, below, place_for, Finds};
 
 use requests::{read_head, read_record};
 use stamp::Parts;
-use wire::{BAD, HEAD_SIZE, RECORD_SIZE, Said};
+use wire::{HEAD_SIZE, Head, RECORD_SIZE, Record, Refusal};
 
 // Where a record's origin stands.
 const ORIGIN: usize = 1;
 
 // Record i, handed on as a part of the message from its own first byte. The head has n screens and stamp m.
-pub fn record_at(msg: &[u8], i: usize, n: usize, m: Parts) -> Said
+pub fn record_at(msg: &[u8], i: usize, n: usize, m: Parts) -> Result<Record, Refusal>
     requires { head_long + (i + 1) * record_long ≤ length msg.now }
-    ensures { result ≡ read_as (record_kind n (list_of m)) (part_at i msg.now) }
+    ensures { says record_says result ≡ read_as (record_kind n (list_of m)) (part_at i msg.now) }
 {
     let at = HEAD_SIZE + i * RECORD_SIZE;
     read_record(&msg[at..at + RECORD_SIZE], n, m)
@@ -32,10 +33,10 @@ fn in_order(msg: &[u8], count: usize, n: usize, m: Parts) -> bool
 {
     let mut last = (0, 0);
     for i in 0..count {
-        let Said::Record { origin, number, .. } = record_at(msg, i, n, m) else {
+        let Ok(record) = record_at(msg, i, n, m) else {
             return false;
         };
-        let next = (origin, number);
+        let next = (record.origin, record.number);
         if next <= last {
             return false;
         }
@@ -45,27 +46,20 @@ fn in_order(msg: &[u8], count: usize, n: usize, m: Parts) -> bool
 }
 
 // The head, if the whole message is well formed.
-pub fn read_gossip(msg: &[u8]) -> Said
-    ensures { result ≡ read_gossip msg.now }
+pub fn read_gossip(msg: &[u8]) -> Result<Head, Refusal>
+    ensures { says head_says result ≡ read_gossip msg.now }
 {
     if msg.len() < HEAD_SIZE {
-        return Said::Unreadable(BAD);
+        return Err(Refusal::Bad);
     }
-    let head = read_head(&msg[..HEAD_SIZE]);
-    let Said::Head {
-        screens,
-        count,
-        stamp,
-        ..
-    } = head
-    else {
-        return Said::Unreadable(BAD);
-    };
-    let n = count as usize;
-    if msg.len() != HEAD_SIZE + n * RECORD_SIZE || !in_order(msg, n, screens as usize, stamp) {
-        return Said::Unreadable(BAD);
+    let head = read_head(&msg[..HEAD_SIZE])?;
+    let n = head.count as usize;
+    if msg.len() != HEAD_SIZE + n * RECORD_SIZE
+        || !in_order(msg, n, head.screens as usize, head.stamp)
+    {
+        return Err(Refusal::Bad);
     }
-    head
+    Ok(head)
 }
 
 // How many records come before those of origin o.
@@ -94,10 +88,10 @@ fn place(msg: &[u8], count: usize, o: u64) -> usize
 pub fn records_of(msg: &[u8], origin: u8) -> &[u8]
     ensures { Finds origin msg.entry result }
 {
-    let Said::Head { count, .. } = read_gossip(msg) else {
+    let Ok(head) = read_gossip(msg) else {
         return &msg[msg.len()..];
     };
-    let n = count as usize;
+    let n = head.count as usize;
     let o = u64::from(origin);
     let a = place(msg, n, o);
     let e = place(msg, n, o + 1);

@@ -15,26 +15,26 @@ unfolding record_kind
 returns-in_default c =
     let s = c.args in
     let l = c.loop-i in
-    sym (l.invariant ∙ pass_unread s.n (list_of s.m) s.count s.msg.now l.i (omega arith) _
-    c.record_at.result c.record_at.ensures (c.in_default.not-Record _ _ _ _))
+    sym (l.invariant ∙ pass_unread s.n (list_of s.m) s.count s.msg.now l.i (omega arith) _ _
+    c.in_default.ensures)
 
 pub returns-then-le : goal.returns-then-le
 returns-then-le c =
     let s = c.args in
     let l = c.loop-i in
-    let r = c.in-Record in
+    let r = c.in-Ok.record in
     let fact : key_before (l.last.0 ∷ l.last.1 ∷ []) (r.origin ∷ r.number ∷ []) ≡ false = search rules in
     sym (l.invariant ∙ pass_falls s.n (list_of s.m) s.count s.msg.now l.i (omega arith) _ _ _ _
-    _ (sym r.is ∙ c.record_at.ensures) fact)
+    _ c.in-Ok.ensures fact)
 
 pub loop-i-preserved : goal.loop-i-preserved
 loop-i-preserved c =
     let s = c.args in
     let l = c.loop-i in
-    let r = c.in-Record in
+    let r = c.in-Ok.record in
     let fact : key_before (l.last.0 ∷ l.last.1 ∷ []) (r.origin ∷ r.number ∷ []) ≡ true = search rules in
     l.invariant ∙ pass_on s.n (list_of s.m) s.count s.msg.now l.i (omega arith) _ _ _ _ _
-    (sym r.is ∙ c.record_at.ensures) fact
+    c.in-Ok.ensures fact
 
 pub returns : goal.returns
 returns c =
