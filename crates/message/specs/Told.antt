@@ -3,8 +3,8 @@
 --     head_in          the head's values are what its reader says
 --     gossip-told      a message says that the bytes are well formed, and is the head's
 --     gossip-unread    a refusal says that they are not
-use Rattle.std.specs.Prelude.{ℕ, ◌+◌, ◌*◌, ◌<◌, ◌≡◌, false, ◌&&◌, List, ◌∷◌, T, eqb, length, take, Ok, Err}
-use Rattle.std.proofs.Common.{arith, ap, ◌∙◌, eqb→eq}
+use Rattle.std.specs.Prelude.{ℕ, ◌+◌, ◌*◌, ◌≡◌, false, ◌&&◌, List, ◌∷◌, T, eqb, length, take, Ok, Err}
+use Rattle.std.proofs.Common.{ap, ◌∙◌, eqb→eq}
 use Rattle.lists.specs.TestLaws.{and_l, and_r, is_true}
 use Rattle.stamp.specs.declared.Parts.{Parts}
 use Rattle.stamp.specs.Parts.{list_of}
@@ -12,7 +12,6 @@ use Rattle.wire.specs.Kinds.{head_kind, head_long, record_long}
 use Rattle.wire.proofs.Laws.{lawful-head}
 use Rattle.wire.specs.Read.{readable, read_as}
 use Rattle.wire.proofs.ReadLaws.{answered, unanswered, told_line}
-use Rattle.wire.specs.Said.{figures}
 use Rattle.wire.specs.declared.Refusal.{Refusal}
 use Rattle.wire.specs.declared.Refusal.TheVariants.{Bad}
 use Rattle.wire.specs.Says.{Said}

@@ -1,7 +1,6 @@
 -- `message::read_gossip` meets its contract. Assumes nothing.
 use Prim.Native.Nat.{◌≤◌}
 use native.Mathlib.Omega.{arith}
-use mathlib.Core.Path.{sym, ◌∙◌}
 use Rattle.limits.specs.LimitLaws.{log-counts}
 use Rattle.limits.specs.Limits.{log_room}
 use Rattle.std.proofs.Common.{take}
@@ -10,6 +9,8 @@ use Rattle.wire.specs.Kinds.{head_kind, head_long}
 use Rattle.wire.proofs.ReadLaws.{unread}
 use Rattle.wire.proofs.Returns.{failed, passed}
 use Rattle.message.proofs.Lines.{too_short, headless, wrong-long, disorder, whole, few}
+use Rattle.message.proofs.read_gossip.Goals.{then-msg-n-via-then-msg-n}
+use Rattle.message.proofs.read_gossip.Goals.{then-msg-n-via-else-msg-n+then-not-in_order}
 use Rattle.message.proofs.read_gossip.Goals as goal
 
 pub returns-then-msg-lt-HEAD_SIZE : goal.returns-then-msg-lt-HEAD_SIZE
@@ -38,14 +39,12 @@ overflow_add-n c =
 
 pub returns-then-msg-n : goal.returns-then-msg-n
 returns-then-msg-n c =
-    let s = c.args in
-    wrong-long s.msg.now _ _ _ _ c.in_ok-head.ensures c.if-msg-n.true
-
-pub returns-then-not-in_order : goal.returns-then-not-in_order
-returns-then-not-in_order c =
-    let s = c.args in
-    disorder s.msg.now _ _ _ _ c.in_ok-head.ensures c.if-msg-n.false
-    (failed c.in_order.ensures c.if-not-in_order.true-raw)
+    let msg = c.args.msg.now in
+    elim c.then-msg-n.branch [
+      | then-msg-n-via-then-msg-n w ↦ wrong-long msg _ _ _ _ c.in_ok-head.ensures w.if-msg-n.true
+      | then-msg-n-via-else-msg-n+then-not-in_order w ↦ disorder msg _ _ _ _ c.in_ok-head.ensures w.if-msg-n.false
+          (failed w.in_order.ensures w.if-not-in_order.true-raw)
+    ]
 
 pub returns : goal.returns
 returns c =
