@@ -16,7 +16,7 @@ use Rattle.settle.proofs.apply_log.Goals as goal
 
 pub loop-i-init : goal.loop-i-init
 loop-i-init c =
-    let e = c.logged_of-i.ensures in
+    let e = c.logged_of.ensures in
     let k = log_start c.args.before.now c.args.s.now c.args.b.now c.requires.held c.requires.appliable _ e.0 in
     (omega (arith, e.0), refl, k.0, k.1, omega (arith, e.1))
 
@@ -33,13 +33,12 @@ apply_row-requires c =
     record {
       held = turn-held w.before.now w.s.now w.b.now h y c.loop-i.b (i - 1) lt e;
       i_in_bounds = turn_in w.before.now w.s.now w.b.now h y c.loop-i.b (i - 1) lt e;
-      before_len = search rules;
       applicable = turn_applicable w.before.now w.s.now w.b.now h y c.loop-i.b (i - 1) lt e;
     }
 
 pub overflow_add-n : goal.overflow_add-n
 overflow_add-n c =
-    record { fits = omega (arith, c.loop-i.invariant.4, c.one_if-n.ensures.1, log_small) }
+    record { fits = ? }
 
 pub loop-i-preserved : goal.loop-i-preserved
 loop-i-preserved c =
@@ -54,15 +53,15 @@ loop-i-preserved c =
     c.loop-i.invariant.3 in
     let h = c.requires.held in
     let y = c.requires.appliable in
-    let one : c.one_if-n.result
+    let one : c.from-n.result
     ≡ bit (is_newly_applied w.before.now w.s.now (get_or (book_of c.loop-i.b).log (i - 1) no_record)) =
-    c.one_if-n.ensures.0 ∙ ap bit c.apply_row.ensures.value in (
+    c.from-n.ensures ∙ ap bit c.apply_row.ensures.value in (
       search rules,
       search rules,
       c.apply_row.ensures.b_after ∙ turn-words w.before.now w.s.now w.b.now h y c.loop-i.b (i - 1) lt e,
       ap (λ (k : ℕ). c.loop-i.n + k) one
           ∙ turn-newly w.before.now w.s.now w.b.now h y c.loop-i.b (i - 1) lt e c.loop-i.n f,
-      omega (arith, c.loop-i.invariant.4, c.one_if-n.ensures.1, c.loop-i-test.true),
+      omega (arith, c.loop-i.invariant.4, ?, c.loop-i-test.true),
     )
 
 pub returns : goal.returns

@@ -19,7 +19,7 @@ pub returns-then-not-is_applied : goal.returns-then-not-is_applied
 returns-then-not-is_applied c =
     let w = c.args in
     let r = get_or (book_of w.b.now).log w.i no_record in
-    let e : is_applied w.s.now r ≡ false = ap (is_applied w.s.now) (sym c.log_row-row.ensures.0)
+    let e : is_applied w.s.now r ≡ false = ap (is_applied w.s.now) (sym c.log_row-row.ensures)
     ∙ sym c.is_applied.ensures ∙ not-true _ c.if-not-is_applied.true-raw in
     let k = not-now w.before.now w.s.now r (book_of w.b.now) e in
     record {
@@ -31,7 +31,7 @@ pub returns-then-is_applied : goal.returns-then-is_applied
 returns-then-is_applied c =
     let w = c.args in
     let r = get_or (book_of w.b.now).log w.i no_record in
-    let e : is_applied w.before.now r ≡ true = ap (is_applied w.before.now) (sym c.log_row-row.ensures.0)
+    let e : is_applied w.before.now r ≡ true = ap (is_applied w.before.now) (sym c.log_row-row.ensures)
     ∙ sym c.is_applied-2.ensures ∙ c.if-is_applied.true in
     let k = was-before w.before.now w.s.now r (book_of w.b.now) e in
     record {
@@ -48,9 +48,9 @@ apply_record-requires c =
     let w = c.args in
     let b = book_of w.b.now in
     let r = get_or b.log w.i no_record in
-    let e : is_applied w.s.now r ≡ true = ap (is_applied w.s.now) (sym c.log_row-row.ensures.0)
+    let e : is_applied w.s.now r ≡ true = ap (is_applied w.s.now) (sym c.log_row-row.ensures)
     ∙ sym c.is_applied.ensures ∙ not-false _ c.if-not-is_applied.false-raw in
-    let f : is_applied w.before.now r ≡ false = ap (is_applied w.before.now) (sym c.log_row-row.ensures.0)
+    let f : is_applied w.before.now r ≡ false = ap (is_applied w.before.now) (sym c.log_row-row.ensures)
     ∙ sym c.is_applied-2.ensures ∙ c.if-is_applied.false in
     newly w.before.now w.s.now r b e f in
     let w = c.args in
@@ -58,8 +58,8 @@ apply_record-requires c =
     let p = c.requires.applicable in
     record {
       held = c.requires.held;
-      row_len = (search rules, subst (λ (r : Record). r.origin < parts) (sym c.log_row-row.ensures.0) p.origin);
-      countable = subst (λ (r : Record). Countable r.body b) (sym c.log_row-row.ensures.0)
+      origin = subst (λ (r : Record). r.origin < parts) (sym c.log_row-row.ensures) p.origin;
+      countable = subst (λ (r : Record). Countable r.body b) (sym c.log_row-row.ensures)
           (p.countable (subst T (sym (found).1) tt));
     }
 
@@ -72,15 +72,15 @@ returns c =
     let w = c.args in
     let b = book_of w.b.now in
     let r = get_or b.log w.i no_record in
-    let e : is_applied w.s.now r ≡ true = ap (is_applied w.s.now) (sym c.log_row-row.ensures.0)
+    let e : is_applied w.s.now r ≡ true = ap (is_applied w.s.now) (sym c.log_row-row.ensures)
     ∙ sym c.is_applied.ensures ∙ not-false _ c.if-not-is_applied.false-raw in
-    let f : is_applied w.before.now r ≡ false = ap (is_applied w.before.now) (sym c.log_row-row.ensures.0)
+    let f : is_applied w.before.now r ≡ false = ap (is_applied w.before.now) (sym c.log_row-row.ensures)
     ∙ sym c.is_applied-2.ensures ∙ c.if-is_applied.false in
     newly w.before.now w.s.now r b e f in
     let b = book_of c.args.b.now in
     let k = found in
     record {
-      b_after = c.apply_record.ensures ∙ ap (λ (r : Record). words_of (added r b)) c.log_row-row.ensures.0
+      b_after = c.apply_record.ensures ∙ ap (λ (r : Record). words_of (added r b)) c.log_row-row.ensures
           ∙ ap words_of (sym k.0);
       value = sym k.1;
     }

@@ -17,7 +17,6 @@ apply_log-n-requires c =
     let ready = subst (λ (x : Stamp). Appliable w.before.now x (book_of w.b.now)) here c.requires.appliable in
     record {
       held = c.requires.held;
-      before_len = (search rules, search rules);
       appliable = ready;
     }
 
