@@ -6,6 +6,7 @@ use mathlib.Core.Path.{◌≡◌, refl, sym, ap, subst, ◌∙◌}
 use mathlib.Core.Bool.{Bool, true, false, not, ◌&&◌, cond}
 use mathlib.Core.List.{List, [], ◌∷◌}
 use lib.Dec.{T}
+use mir.Val.{bool_byte}
 use lib.ListN.{length, get_or, take, drop, length-take, length-drop, drop_of_length-le}
 use Rattle.lists.specs.TestLaws.{bit}
 use Rattle.lists.specs.Order.{insert}
@@ -32,6 +33,11 @@ use Rattle.lent.specs.Words.{book_of, words_of}
 use Rattle.settle.specs.Moves.{count_taps, added, is_newly_applied, apply_one, apply_all, shed, settled}
 use Rattle.settle.specs.Ready.{Countable, Applicable, Appliable, applied_from, from-me, from-shape, from-log}
 use Rattle.settle.specs.Ready.{from-none, from_all, from_next, newly-next, from_applicable}
+
+-- what a flag counts for
+pub byte_bit : (c : Bool) → bool_byte c ≡ bit c
+byte_bit true = refl
+byte_bit false = refl
 
 -- counting one tap
 module _ (t : Tap) (b : Book) where
@@ -121,6 +127,13 @@ module _ (before now : Stamp) (r : Record) (b : Book) where
       → (apply_one before now r b ≡ added r b) × (is_newly_applied before now r ≡ true)
   unfolding apply_one is_newly_applied
   newly e f = (rw (e, f), rw (e, f))
+
+-- the tests of a copy of the record
+pub newly_at : (before now : Stamp) (r copy : Record) (b : Book) → copy ≡ r → is_applied now copy ≡ true
+    → is_applied before copy ≡ false
+    → (apply_one before now r b ≡ added r b) × (is_newly_applied before now r ≡ true)
+newly_at before now r copy b same e f =
+    newly before now r b (ap (is_applied now) (sym same) ∙ e) (ap (is_applied before) (sym same) ∙ f)
 
 -- the log from its end to its start
 module _ (before now : Stamp) (ws : List ℕ) (h : Held ws) (y : Appliable before now (book_of ws)) where
