@@ -10,6 +10,8 @@ use Rattle.std.proofs.lemmas.List.{length-map}
 use Rattle.std.proofs.lemmas.List.Folds.{fold-map}
 use Rattle.std.proofs.lemmas.List.Sums.{length-filter}
 use mathlib.Core.Bool.{and-false}
+use mir.Val.{bool_byte}
+use Rattle.lists.specs.TestLaws.{bit}
 use Rattle.lists.specs.Order.{key_before, rising}
 use Rattle.lists.proofs.Neighbours.{rising-next}
 use Rattle.stamp.specs.Stamp.{Stamp, at_most}
@@ -30,6 +32,11 @@ prefix_rows p (r ∷ rs) = ap (λ (n : ℕ). cond (p (record_at r)) (1 + n) 0) (
 pub position_rows : (p : Record → Bool) (rs : List (List ℕ))
     → position p (records_of rs) ≡ position (λ r. p (record_at r)) rs
 position_rows p rs = rw (prefix_rows (λ r. not (p r)) rs, length-map rs record_at)
+
+-- what a flag counts for
+pub byte_bit : (c : Bool) → bool_byte c ≡ bit c
+byte_bit true = refl
+byte_bit false = refl
 
 -- one row stands before another
 abbrev pub before : List ℕ → List ℕ → Bool

@@ -6,7 +6,6 @@ use mathlib.Core.Path.{◌≡◌, refl, sym, ap, subst, ◌∙◌}
 use mathlib.Core.Bool.{Bool, true, false, not, ◌&&◌, cond}
 use mathlib.Core.List.{List, [], ◌∷◌}
 use lib.Dec.{T}
-use mir.Val.{bool_byte}
 use lib.ListN.{length, get_or, take, drop, length-take, length-drop, drop_of_length-le}
 use Rattle.lists.specs.TestLaws.{bit}
 use Rattle.lists.specs.Order.{insert}
@@ -33,11 +32,6 @@ use Rattle.lent.specs.Words.{book_of, words_of}
 use Rattle.settle.specs.Moves.{count_taps, added, is_newly_applied, apply_one, apply_all, shed, settled}
 use Rattle.settle.specs.Ready.{Countable, Applicable, Appliable, applied_from, from-me, from-shape, from-log}
 use Rattle.settle.specs.Ready.{from-none, from_all, from_next, newly-next, from_applicable}
-
--- what a flag counts for
-pub byte_bit : (c : Bool) → bool_byte c ≡ bit c
-byte_bit true = refl
-byte_bit false = refl
 
 -- counting one tap
 module _ (t : Tap) (b : Book) where

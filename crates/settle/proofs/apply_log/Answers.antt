@@ -8,9 +8,10 @@ use Rattle.ledger.specs.Log.{newly_applied}
 use Rattle.limits.specs.LimitLaws.{log_small}
 use Rattle.lent.specs.Rows.{no_record}
 use Rattle.lent.specs.Words.{book_of, words_of}
+use Rattle.book_log.proofs.Rows.{byte_bit}
 use Rattle.settle.specs.Moves.{is_newly_applied}
 use Rattle.settle.specs.Ready.{applied_from}
-use Rattle.settle.proofs.Turn.{byte_bit, log_start, turn-held, turn_in, turn_applicable, turn-words, turn-newly, log-end}
+use Rattle.settle.proofs.Turn.{log_start, turn-held, turn_in, turn_applicable, turn-words, turn-newly, log-end}
 use borrow.Author.Rules.{rules}
 use Rattle.settle.proofs.apply_log.Goals as goal
 
