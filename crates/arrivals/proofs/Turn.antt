@@ -7,14 +7,13 @@ use mathlib.Core.Logic.{◌≢◌}
 use mathlib.Core.Bool.{Bool, true, false, not}
 use mathlib.Core.List.{List, [], ◌∷◌, ◌++◌, map, append-nil}
 use lib.Dec.{T, leb}
-use lib.ListN.{length, get_or, take, drop, drop_of_length-le}
+use lib.ListN.{length, get_or, take, drop, drop_of_length-le, length-append}
 use lib.Seq.{take_all, take-suc, drop-cons}
 use Rattle.limits.specs.Limits.{parts}
 use Rattle.lists.specs.TestLaws.{clash, and_r, bit, is_true, keep-length}
 use Rattle.lists.specs.Order.{rising}
 use Rattle.lists.specs.Tests.{all_below, every, keep}
 use Rattle.stamp.specs.Parts.{parts_at, list_of}
-use Rattle.stamp.specs.PartsLaws.{whole-stamp}
 use Rattle.stamp.specs.Stamp.{Stamp, part}
 use Rattle.stamp.specs.declared.Parts.{Parts}
 use Rattle.tally.specs.Tap.{FitsBits, tap_fits, fields, word_of}
@@ -158,15 +157,18 @@ module _ (bytes : List ℕ) (w : T (well_formed bytes)) (k : ℕ) (some : 0 < k)
   unfolding unknowns
   last-new t = split ∙ rw t
 
--- no number is missing: the climb from a copy of the known stamp reaches m
+  -- and so one more than without it
+  pub last-left : is_known known r ≡ false → length (unknowns known (take k (records_in bytes)))
+      ≡ length (unknowns known (take (k - 1) (records_in bytes))) + 1
+  last-left t = ap length (last-new t) ∙ length-append (unknowns known (take (k - 1) (records_in bytes))) (r ∷ [])
+
+-- no number is missing: the climb from the known stamp reaches m
 pub look-whole :
-    (bytes : List ℕ) → T (well_formed bytes) → (n : ℕ) (known m s reached : Stamp)
-    → (length known ≡ stamp_long) × (n ≤ stamp_long) → s ≡ m
-    → reached ≡ climb (list_of (parts_at 0 known)) (records_in bytes)
+    (bytes : List ℕ) → T (well_formed bytes) → (n : ℕ) (known m s reached : Stamp) → length known ≡ stamp_long
+    → n ≤ stamp_long → s ≡ m → reached ≡ climb known (records_in bytes)
     → all_below n (λ k. leb (part s k) (part reached k)) ≡ holds_all n known m (records_in bytes)
 unfolding in_order records_in
-look-whole bytes w n known m s reached h e f =
+look-whole bytes w n known m s reached long few e f =
     let order = and_r (every (readable (records_kind bytes)) (record_parts bytes))
     (rising place (map (record_from (records_kind bytes)) (record_parts bytes))) (well-order bytes w) in
-    rw (e, f, whole-stamp known h.0)
-    (sym (climb-holds n known m (records_in bytes) order (omega (arith, h.0, h.1))))
+    rw (e, f) (sym (climb-holds n known m (records_in bytes) order (omega arith)))

@@ -10,7 +10,7 @@ ghost use Rattle.stamp.specs.Stamp.{part, stamp_fits, total};
 ghost use Rattle.tally.specs.Body.{body_of, body_fits};
 ghost use Rattle.tally.specs.Tap.{tap_fits};
 ghost use Rattle.ledger.specs.Record.{stamp_of};
-ghost use Rattle.book_log.specs.Region.{row_long, stamp_long, record_at};
+ghost use Rattle.book_log.specs.Region.{stamp_long, record_at};
 ghost use Rattle.meaning.specs.Book.{known};
 ghost use Rattle.meaning.specs.Step.{new_record, take_book, tap_stops, tap_step};
 ghost use Rattle.meaning.specs.Done.{TakeDone};
@@ -35,8 +35,8 @@ use tally::pack;
 use wire::{Refusal, TapRequest};
 
 // The stamp of a row's record.
-fn stamp_parts(row: &[u64]) -> Parts
-    requires { (length row.now ≡ row_long) × ((record_at row.now).origin < stamp_long) }
+fn stamp_parts(row: &[u64; ROW]) -> Parts
+    requires { (record_at row.now).origin < stamp_long }
     ensures { list_of result ≡ stamp_of (record_at row.now) }
 {
     let s = row_stamp(row);
@@ -68,8 +68,7 @@ fn new_row(b: &[u64], w: u64, label: Parts) -> [u64; ROW]
     requires b_bound { (book_of b.now).me < (book_of b.now).screens }
     requires b_bound_2 { part (known (book_of b.now)) (book_of b.now).me < word }
     requires t { T (body_fits w) }
-    ensures { (record_at result ≡ new_record (book_of b.now) (body_of w) (list_of label))
-        × (length result ≡ row_long) }
+    ensures { record_at result ≡ new_record (book_of b.now) (body_of w) (list_of label) }
 {
     let i = screen_of(b);
     let s = known_of(b);
@@ -106,15 +105,13 @@ pub fn stop_tap(b: &[u64], asked: TapRequest) -> Result<TapRequest, Reply>
     if is_counted(b, w) {
         return Err(Reply::Already(value_of(b)));
     }
-    let n = logged_of(b);
-    let i = find_logged(b, w);
-    if i < n {
+    if let Some(i) = find_logged(b, w) {
         return Err(Reply::Already(logged_stamp(b, i)));
     }
     if is_spent(b) {
         return Err(Reply::Refused(Refusal::Spent));
     }
-    if log_room() <= n as u64 {
+    if log_room() <= logged_of(b) as u64 {
         return Err(Reply::Refused(Refusal::NoRoom));
     }
     Ok(asked)

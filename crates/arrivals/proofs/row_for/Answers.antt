@@ -20,7 +20,7 @@ pack-requires c =
 
 pub returns : goal.returns
 returns c =
-    c.make_row.ensures.0
+    c.make_row.ensures
     ∙ rw c.pack.ensures
     (record-read c.args.msg.now c.args.n (list_of c.args.m) c.requires.head c.args.i c.requires.i_bound _ _ _ _
     c.in-Ok.ensures)
