@@ -30,7 +30,7 @@ use lent::{
     known_of, log_end, log_start, logged_of, raise_row, ready_of, row_of, screen_of, screens_of,
     set_logged,
 };
-use limits::{book_room, log_room};
+use limits::{PARTS, book_room, log_room};
 use promise::{AHEAD, CROSSED, GAP, NO_ROOM, OLD, Reply, SPENT, WRONG_HOUSE};
 use settle::settle_book;
 use stamp::{Parts, at_most, list_of, merge_into, parts_at, sum};
@@ -123,7 +123,7 @@ fn merge_at(
     count: usize,
     n: usize,
     m: Parts,
-    known: &[u64],
+    known: &[u64; PARTS],
 )
     requires a_le_e { (a ≤ e) × (e ≤ length b.old) × ((logged + new) * row_long ≤ e - a) }
     requires coming { Coming msg.now n count (list_of m) known.now new }
@@ -144,7 +144,7 @@ pub fn take_new(
     count: usize,
     n: usize,
     m: Parts,
-    known: &[u64],
+    known: &[u64; PARTS],
 )
     requires held { Held b.old }
     requires coming { Coming msg.now n count (list_of m) known.now new }
@@ -193,7 +193,7 @@ fn take_in(
     count: usize,
     n: usize,
     m: Parts,
-    old: &[u64],
+    old: &[u64; PARTS],
 ) -> u64
     requires t { T (lawful b.old) }
     requires heard { Heard msg.now j n count (list_of m) }
@@ -229,11 +229,10 @@ fn stop_records(
         stamp result }
 {
     let known = known_of(b);
-    let look = look_at(msg, count as usize, screens as usize, stamp, &known);
-    if !look.whole {
+    let Some(new) = look_at(msg, count as usize, screens as usize, stamp, &known) else {
         return GossipStop::Stopped(Reply::Refused(GAP));
-    }
-    if log_room() < (logged_of(b) + look.new) as u64 {
+    };
+    if log_room() < (logged_of(b) + new) as u64 {
         return GossipStop::Stopped(Reply::Refused(NO_ROOM));
     }
     GossipStop::Clear {
@@ -241,7 +240,7 @@ fn stop_records(
         screens,
         count,
         stamp,
-        new: look.new,
+        new,
     }
 }
 

@@ -39,9 +39,8 @@ settle_book-requires c =
     let w = c.args in
     let give = new-gives w.b.now w.msg.now w.j w.n w.count (list_of w.m) in
     let all = give c.requires.t c.requires.heard c.requires.gossip_done _ c.list_of-s.ensures _ c.raise_rows.ensures
-    w.old.now c.requires.value w.new c.requires.value_2 _ c.take_new.ensures _ c.ready_of-before.ensures.0
-    c.ready_of-before.ensures.1 in
-    record { held = all.0; b_bound = all.1.0; before_len = all.1.1.0; appliable = all.1.1.1 }
+    w.old.now c.requires.value w.new c.requires.value_2 _ c.take_new.ensures _ c.ready_of-before.ensures.0 in
+    record { held = all.0; b_bound = all.1.0; appliable = all.1.1 }
 
 pub returns : goal.returns
 returns c =
