@@ -16,7 +16,7 @@ use Rattle.wire.specs.Kinds.{message_long, open_kind}
 use Rattle.wire.specs.Read.{line_of, readable, read_as}
 use Rattle.wire.proofs.ReadLaws.{told}
 use Rattle.wire.specs.Write.{Output, Meets, refuse}
-use Rattle.wire.specs.declared.Said.TheVariants as said
+use Rattle.wire.specs.Says as said
 use Rattle.wire.specs.declared.Written.{Written}
 use Rattle.wire.specs.declared.Written.TheVariants.{Wrote, Refused}
 use Rattle.message.specs.Message.{message_bytes}

@@ -3,8 +3,8 @@ use Rattle.std.specs.Prelude.{ℕ, Bool, List, get_or}
 use Rattle.wire.specs.Kinds.{Kind, taken_kind, already_kind, verdict_kind, wait_kind, refusal_kind, gossip_taken_kind}
 use Rattle.wire.specs.Kinds.{message_long}
 use Rattle.wire.specs.Write.{Output, writable, written, write_as}
-use Rattle.wire.specs.declared.Said.{Said}
-use Rattle.wire.specs.declared.Said.TheVariants as said
+use Rattle.wire.specs.Says.{Said}
+use Rattle.wire.specs.Says as said
 use Rattle.meaning.specs.Reply.{Reply, taken, already, verdict, wait, refusal, gossiped, figures}
 use Rattle.promise.specs.declared.Reply as answer
 use Rattle.promise.specs.declared.Reply.TheVariants as says

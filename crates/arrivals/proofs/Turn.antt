@@ -29,8 +29,8 @@ use Rattle.wire.specs.Kinds.{Kind, record_kind, tap_at, head_long, record_long}
 use Rattle.wire.proofs.Laws.{lawful_record}
 use Rattle.wire.specs.Read.{line_of, readable, read_as}
 use Rattle.wire.proofs.ReadLaws.{told_line}
-use Rattle.wire.specs.declared.Said.{Said}
-use Rattle.wire.specs.declared.Said.TheVariants as said
+use Rattle.wire.specs.Says.{Said}
+use Rattle.wire.specs.Says as said
 use Rattle.message.specs.Find.{part_at}
 use Rattle.wire.specs.Head.{count_in}
 use Rattle.message.specs.Message.{records_kind, record_parts, record_from, records_in, in_order, well_formed}

@@ -23,7 +23,7 @@ use Rattle.wire.specs.Kinds.{shaped, tap_at, stamp_at, tap_kind, question_kind}
 use Rattle.wire.specs.Read.{line_of, readable, read_as}
 use Rattle.wire.proofs.ReadLaws.{told}
 use Rattle.wire.specs.Write.{Output, Meets, refuse}
-use Rattle.wire.specs.declared.Said.TheVariants as said
+use Rattle.wire.specs.Says as said
 use Rattle.wire.specs.declared.Written.{Written}
 use Rattle.wire.specs.declared.Written.TheVariants.{Refused}
 use Rattle.wire.specs.Head.{head_line}

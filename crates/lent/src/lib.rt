@@ -199,7 +199,7 @@ pub fn is_counted(b: &[u64], w: u64) -> bool
     requires { Held b.now }
     ensures { result ≡ among (book_of b.now).counted (tap_of w) }
 {
-    has(counted_words(b), taps_of(b), w)
+    has(&counted_words(b)[..taps_of(b)], w)
 }
 
 // The standing of a prompt.

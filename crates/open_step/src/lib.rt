@@ -7,14 +7,7 @@ ghost use Rattle.open_step.specs.Opening.{Opens};
 
 use ledger::in_range;
 use lent::{BOOK, SCREEN, SCREENS};
-use promise::{UNSOUND, WRONG_HOUSE};
-
-// Whether the book is open, or the refusal's number.
-#[derive(Clone, Copy)]
-pub enum Opening {
-    Opened,
-    Refused(u64),
-}
+use wire::Refusal;
 
 // Every word zero.
 fn clear(b: &mut [u64])
@@ -28,17 +21,17 @@ fn clear(b: &mut [u64])
 }
 
 // The fresh book of screen i of n.
-pub fn open_book(b: &mut [u64], i: u64, n: u64) -> Opening
+pub fn open_book(b: &mut [u64], i: u64, n: u64) -> Result<(), Refusal>
     ensures { Opens (open_on b.old i n) result b.new }
 {
     if b.len() != BOOK {
-        return Opening::Refused(UNSOUND);
+        return Err(Refusal::Unsound);
     }
     if !in_range(i, n) {
-        return Opening::Refused(WRONG_HOUSE);
+        return Err(Refusal::WrongHouse);
     }
     clear(b);
     b[SCREEN] = i;
     b[SCREENS] = n;
-    Opening::Opened
+    Ok(())
 }

@@ -1,11 +1,11 @@
 -- Laws of the prompts' words: standings and words give each other back, and what noting a tap comes to. Assumes
 -- nothing.
-use Rattle.std.specs.Prelude.{ℕ, zero, suc, ◌+◌, ◌*◌, ◌<◌, ◌≡◌, refl, Bool, true, false, ◌&&◌, List, [], ◌∷◌, map, eqb}
+use Rattle.std.specs.Prelude.{ℕ, zero, suc, ◌+◌, ◌*◌, ◌<◌, ◌≡◌, refl, Bool, true, false, ◌&&◌, List, [], ◌∷◌, ◌++◌, map, eqb}
 use Rattle.std.specs.Prelude.{length, take, drop, get_or, set, replicate}
 use Rattle.std.proofs.Common.{add-zero, arith, sym, ap, ◌∙◌, length-set, get_or-take, get_or-drop}
 use Rattle.std.proofs.lemmas.List.{length-map}
 use Rattle.std.proofs.Math.ListN.{get_or-map}
-use Rattle.lists.proofs.ElementLaws.{at}
+use Rattle.lists.proofs.ElementLaws.{OneMore, at, later}
 use Rattle.lists.specs.Order.{same_key}
 use Rattle.lists.specs.RowLaws.{length-rows, rows_at}
 use Rattle.lists.specs.Rows.{rows, flat}
@@ -150,10 +150,15 @@ pub standings-noted : (t : Tap) (ss : List Standing) → length ss ≡ prompt_co
     → standings_at (standing_words (noted_at t ss)) ≡ noted_at t ss
 standings-noted t ss h = standings-words (noted_at t ss) (length-noted t ss ∙ h)
 
--- one more tap in front changes one standing
+-- one more tap changes one standing
 pub prompt-word : (w : ℕ) → (tap_of w).prompt < prompt_count
 unfolding prompt_count
 prompt-word w = omega arith
 
-pub afresh-first : (t : Tap) (ts : List Tap) → t.prompt < prompt_count → afresh (t ∷ ts) ≡ noted_at t (afresh ts)
-afresh-first t ts h = afresh-more t ts (t ∷ ts) at h
+last-more : (t : Tap) (ts : List Tap) → OneMore t ts (ts ++ (t ∷ []))
+last-more t [] = at
+last-more t (u ∷ ts) = later (last-more t ts)
+
+pub afresh-next : (t : Tap) (ts : List Tap) → t.prompt < prompt_count
+    → afresh (ts ++ (t ∷ [])) ≡ noted_at t (afresh ts)
+afresh-next t ts h = afresh-more t ts (ts ++ (t ∷ [])) (last-more t ts) h

@@ -2,11 +2,10 @@
 #![tactic(auto)]
 
 ghost use Rattle.std.specs.Prelude.{◌≡◌, [], ◌+◌, ◌*◌, ◌≤◌, ◌<◌, length, get_or, set};
-ghost use Rattle.lists.specs.Order.{same_key};
 ghost use Rattle.limits.specs.Limits.{prompt_count, count_limit};
 ghost use Rattle.tally.specs.Standing.{CountsFit, blank, afresh, same_counts};
 ghost use Rattle.tally.specs.Tap.{tap_of};
-ghost use Rattle.taps.specs.Region.{taps_at};
+ghost use Rattle.taps.specs.Region.{taps_in};
 ghost use Rattle.prompts.specs.Region.{standing_long, prompt_words, standings_at, standing_words, noted_at};
 
 use limits::PROMPT_COUNT;
@@ -18,6 +17,7 @@ const STANDING_LONG: usize = 3;
 pub const PROMPT_WORDS: usize = PROMPT_COUNT as usize * STANDING_LONG;
 
 // Where a prompt's standing begins.
+#[tactic(auto, unfolding(limits::specs::Limits::prompt_count))]
 fn place_of(p: u64) -> usize
     requires { p < prompt_count }
     ensures { (result ≡ p * standing_long) × (result + standing_long ≤ prompt_words) }
@@ -61,43 +61,26 @@ pub fn note(r: &mut [u64], w: u64)
     put_standing(r, t.prompt, noted(t, s));
 }
 
-// Notes the first n taps in a table that holds none: from the last to the first, so that those noted are always the
-// rest.
-fn tabulate(table: &mut [u64], taps: &[u64], n: usize)
+// Notes some taps in a table that holds none.
+fn tabulate(table: &mut [u64], taps: &[u64])
     requires table_len { length table.old ≡ prompt_words }
     requires table_value { standings_at table.old ≡ afresh [] }
-    requires n_in_bounds { (n ≤ length taps.now) × (n < count_limit) }
-    ensures table_after { standings_at table.new ≡ afresh (taps_at n taps.now) }
+    requires few { length taps.now < count_limit }
+    ensures table_after { standings_at table.new ≡ afresh (taps_in taps.now) }
     ensures table_len_2 { length table.new ≡ prompt_words }
 {
-    let mut i = n;
-    while 0 < i {
-        i -= 1;
-        note(table, taps[i]);
+    for w in taps {
+        note(table, *w);
     }
 }
 
-fn same_words(a: &[u64], b: &[u64]) -> bool
-    requires { length a.now ≡ length b.now }
-    ensures { result ≡ same_key a.now b.now }
-{
-    let mut i = 0;
-    while i < a.len() {
-        if a[i] != b[i] {
-            return false;
-        }
-        i += 1;
-    }
-    true
-}
-
-// Whether the standings are those of the first n taps, counted afresh.
-pub fn counts_follow(r: &[u64], taps: &[u64], n: usize) -> bool
+// Whether the standings are those of the taps, counted afresh.
+pub fn counts_follow(r: &[u64], taps: &[u64]) -> bool
     requires r_len { length r.now ≡ prompt_words }
-    requires n_in_bounds { (n ≤ length taps.now) × (n < count_limit) }
-    ensures { result ≡ same_counts (standings_at r.now) (afresh (taps_at n taps.now)) }
+    requires few { length taps.now < count_limit }
+    ensures { result ≡ same_counts (standings_at r.now) (afresh (taps_in taps.now)) }
 {
     let mut table = [0u64; PROMPT_WORDS];
-    tabulate(&mut table, taps, n);
-    same_words(r, &table)
+    tabulate(&mut table, taps);
+    r == &table[..]
 }

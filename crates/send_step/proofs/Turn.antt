@@ -21,7 +21,7 @@ use Rattle.wire.specs.Kinds.{Kind, size_of, head_kind, record_kind, head_long, r
 use Rattle.wire.proofs.Returns.{meets}
 use Rattle.wire.specs.Said.{figures}
 use Rattle.wire.specs.Write.{Meets, writable, written, write_as}
-use Rattle.wire.specs.declared.Said.TheVariants as said
+use Rattle.wire.specs.Says as said
 use Rattle.wire.specs.declared.Written.{Written}
 use Rattle.wire.specs.declared.Written.TheVariants.{Wrote, Refused}
 use Rattle.message.specs.LineLaws.{head-writable}

@@ -85,11 +85,8 @@ fn put_records(b: &[u64], m: Parts, out: &mut [u8])
         ≡ with_records (send (book_of b.now)) (book_of b.now).log head_long
         (start_at (length (book_of b.now).log)) out.old }
 {
-    let n = logged_of(b);
-    let mut i = 0;
-    while i < n {
+    for i in 0..logged_of(b) {
         put_record(b, i, m, out);
-        i += 1;
     }
 }
 

@@ -200,7 +200,7 @@ fn row_counted(row: &[u64], ready: &[u64], counted: &[u64], taps: usize) -> bool
     if !is_applied(row, ready) {
         return true;
     }
-    has(counted, taps, row[BODY])
+    has(&counted[..taps], row[BODY])
 }
 
 // Whether each applied log record's tap is counted.
@@ -255,10 +255,10 @@ fn counted_sound(
     ensures { result ≡ all (counted_rules known.now ready.now (records_at count r.now)
         (taps_at taps counted.now)) }
 {
-    if !rising_words(counted, taps) {
+    if !rising_words(&counted[..taps]) {
         return false;
     }
-    if !all_fit(counted, taps) {
+    if !all_fit(&counted[..taps]) {
         return false;
     }
     if !rows_counted(r, count, ready, counted, taps) {
@@ -300,7 +300,7 @@ fn regions_sound(
     if !counted_sound(counted, taps, log, logged, known, ready) {
         return false;
     }
-    counts_follow(prompts, counted, taps)
+    counts_follow(prompts, &counted[..taps])
 }
 
 // The clauses on the five pieces behind the numbers: row i of the table is the known stamp, and today the ready stamp.

@@ -3,22 +3,22 @@
 use Rattle.std.specs.Prelude.{ℕ, suc, ◌+◌, ◌-◌, ◌≤◌, ◌<◌, ◌≡◌, refl, not, ◌||◌, List, [], ◌∷◌, ◌++◌, map, T, eqb, ltb}
 use Rattle.std.specs.Prelude.{length, take, drop, replicate}
 use Rattle.std.proofs.Common.{arith, sym, ap, ap₂, subst, ◌∙◌, length-append, length-drop, take-append-drop}
-use Rattle.std.proofs.Common.{length-take-le, take_at}
+use Rattle.std.proofs.Common.{length-take-le, take_at, eqb→eq}
 use Rattle.std.proofs.lemmas.List.{length-map, length-replicate}
 use Rattle.std.proofs.Math.Seq.{drop-append-add}
-use Rattle.lists.specs.TestLaws.{◌∈◌, here, there, clash}
-use Rattle.lists.proofs.ElementLaws.{OneMore, at, later, insert-new}
+use Rattle.lists.specs.TestLaws.{◌∈◌, here, there, clash, same_test}
+use Rattle.lists.proofs.ElementLaws.{OneMore, at, later, insert-new, eq→eqb}
 use Rattle.lists.proofs.Neighbours.{map-rising}
 use Rattle.lists.specs.Order.{key_before, rising, insert}
 use Rattle.lists.proofs.Sorted.{map-insert}
 use Rattle.lists.specs.Tests.{every, exists}
 use Rattle.lists.specs.Zeros.{all-zeros}
 use Rattle.tally.specs.Standing.{among}
-use Rattle.tally.specs.Tap.{FitsBits, fields, same_tap, word_of, tap_of}
+use Rattle.tally.specs.Tap.{FitsBits, fields, word_of, tap_of}
 use Rattle.tally.proofs.TapLaws.{mem-among}
 use Rattle.tally.proofs.WordLaws.{word_tap, tap-word, tap-equal, tap-order, fields-same}
 use Rattle.tally.specs.declared.Tap.{Tap}
-use Rattle.taps.specs.Region.{taps_at, tap_words, inserted_at}
+use Rattle.taps.specs.Region.{taps_in, taps_at, tap_words, inserted_at}
 
 -- taps that fit their words
 abbrev pub AllFit : List Tap → Type 0
@@ -63,17 +63,18 @@ pub word-before : (v w : ℕ) → key_before (word_key v) (word_key w) ≡ ltb v
 unfolding word_key
 word-before v w = tap-order v w
 
-pub rising-taps : (n : ℕ) (r : List ℕ) → rising fields (taps_at n r) ≡ rising word_key (take n r)
-unfolding taps_at word_key
-rising-taps n r = map-rising tap_of word_key fields (λ w. refl) (take n r)
+pub rising-taps : (l : List ℕ) → rising fields (taps_in l) ≡ rising word_key l
+unfolding word_key
+rising-taps l = map-rising tap_of word_key fields (λ w. refl) l
 
-pub among-taps : (n : ℕ) (r : List ℕ) (w : ℕ) → among (taps_at n r) (tap_of w) ≡ exists (eqb w) (take n r)
-unfolding taps_at among
-among-taps n r w = go (take n r)
-  where
-    go : (l : List ℕ) → exists (same_tap (tap_of w)) (map tap_of l) ≡ exists (eqb w) l
-    go [] = refl
-    go (v ∷ l) = ap₂ ◌||◌ (tap-equal w v) (go l)
+eqb-turned : (v w : ℕ) → eqb v w ≡ eqb w v
+eqb-turned v w =
+    same_test (eqb v w) (eqb w v) (λ t. eq→eqb w v (sym (eqb→eq v w t))) (λ t. eq→eqb v w (sym (eqb→eq w v t)))
+
+pub among-taps : (l : List ℕ) (w : ℕ) → among (taps_in l) (tap_of w) ≡ exists (λ v. eqb v w) l
+unfolding among
+among-taps [] w = refl
+among-taps (v ∷ l) w = ap₂ ◌||◌ (tap-equal w v ∙ eqb-turned w v) (among-taps l w)
 
 pub inserted-by-words : (n w : ℕ) (r : List ℕ) → inserted_at n w r ≡ insert word_key w (take n r) ++ drop (n + 1) r
 unfolding inserted_at taps_at word_key

@@ -7,7 +7,7 @@ use Rattle.lists.specs.TestLaws.{is_true}
 use Rattle.wire.specs.Read.{readable}
 use Rattle.wire.proofs.ReadLaws.{told, untold}
 use Rattle.wire.specs.Said.{figures}
-use Rattle.wire.specs.declared.Said.{Said}
+use Rattle.wire.specs.Says.{Said}
 use Rattle.message.specs.Tags.{not-this}
 use Rattle.wire.specs.Kinds.{send_kind}
 use Rattle.answer.specs.Answer.{done_by, send_done, bad_on}

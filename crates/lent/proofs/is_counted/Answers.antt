@@ -1,6 +1,7 @@
 -- `lent::is_counted` meets its contract. Assumes nothing.
 use native.Mathlib.Omega.{arith}
-use mathlib.Core.Path.{ap, ap₂, ◌∙◌}
+use lib.Seq.{length-take-le}
+use mathlib.Core.Path.{sym, ap, ap₂, ◌∙◌}
 use mathlib.Core.List.{List}
 use Rattle.tally.specs.Standing.{among}
 use Rattle.tally.specs.Tap.{tap_of}
@@ -14,11 +15,13 @@ use Rattle.lent.proofs.is_counted.Goals as goal
 pub counted_words-requires : goal.counted_words-requires
 counted_words-requires c = held-long c.args.b.now c.requires
 
-pub has-requires : goal.has-requires
+pub slice_bounds-has-end : goal.slice_bounds-has-end
 unfolding size
-has-requires c = omega (arith, c.taps_of.ensures, c.counted_words.ensures.1)
+slice_bounds-has-end c =
+    sym (length-take-le _ c.counted_words.result.now (omega (arith, c.taps_of.ensures, c.counted_words.ensures.1)))
 
 pub returns : goal.returns
+unfolding taps_at
 returns c =
     c.has.ensures
     ∙ ap (λ (ts : List Tap). among ts (tap_of c.args.w))

@@ -4,9 +4,10 @@ use Rattle.lists.specs.Order.{same_key}
 use Rattle.limits.specs.Limits.{prompt_count}
 use Rattle.tally.specs.Standing.{afresh}
 use Rattle.tally.proofs.StandingLaws.{afresh-length}
-use Rattle.taps.specs.Region.{taps_at}
+use Rattle.taps.specs.Region.{taps_in}
 use Rattle.prompts.specs.Region.{standings_at, standing_words}
 use Rattle.prompts.specs.RegionLaws.{words_standings, length_standings, standings-fresh, same-counts}
+use Rattle.prompts.proofs.Turn.{pointwise-key}
 use borrow.Author.Rules.{rules}
 use Rattle.prompts.proofs.counts_follow.Goals as goal
 
@@ -16,14 +17,14 @@ tabulate-requires c =
     record {
       table_len = search rules;
       table_value = standings-fresh;
-      n_in_bounds = c.requires.n_in_bounds;
+      few = c.requires.few;
     }
 
 pub returns : goal.returns
 returns c =
     let r = c.args.r.now in
-    let ts = taps_at c.args.n c.args.taps.now in
+    let ts = taps_in c.args.taps.now in
     let table = sym (words_standings _ c.tabulate.ensures.table_len_2)
     ∙ ap standing_words c.tabulate.ensures.table_after in
-    c.same_words.ensures ∙ ap₂ same_key (sym (words_standings r c.requires.r_len)) table
+    c.eq.ensures ∙ pointwise-key r _ ∙ ap₂ same_key (sym (words_standings r c.requires.r_len)) table
     ∙ same-counts (standings_at r) (afresh ts) (length_standings r ∙ sym (afresh-length ts))

@@ -6,23 +6,11 @@ use Rattle.prompts.specs.Region.{standings_at, standing_words, noted_at}
 use Rattle.prompts.specs.RegionLaws.{length-words, length-noted, length_standings, prompt-word}
 use Rattle.prompts.proofs.note.Goals as goal
 
-pub standing_at-s-requires : goal.standing_at-s-requires
-standing_at-s-requires c =
-    record {
-      r_len = c.requires.r_len;
-      p_lt_prompt_count = rw c.unpack-t.ensures (prompt-word c.args.w);
-    }
+pub standing_at-s-requires-clause-p_lt_prompt_count : goal.standing_at-s-requires-clause-p_lt_prompt_count
+standing_at-s-requires-clause-p_lt_prompt_count c = rw c.unpack-t.ensures (prompt-word c.args.w)
 
-pub noted-requires : goal.noted-requires
-noted-requires c =
-    rw (c.standing_at-s.ensures, c.unpack-t.ensures) c.requires.counts_fit
-
-pub put_standing-requires : goal.put_standing-requires
-put_standing-requires c =
-    record {
-      r_len = c.requires.r_len;
-      p_lt_prompt_count = rw c.unpack-t.ensures (prompt-word c.args.w);
-    }
+pub put_standing-requires-clause-p_lt_prompt_count : goal.put_standing-requires-clause-p_lt_prompt_count
+put_standing-requires-clause-p_lt_prompt_count c = rw c.unpack-t.ensures (prompt-word c.args.w)
 
 pub returns : goal.returns
 returns c =

@@ -3,6 +3,7 @@ use mathlib.Core.Path.{sym, ◌∙◌}
 use mathlib.Core.Bool.{and-true, and-false}
 use borrow.Author.Tests.{not-true, not-false}
 use Rattle.soundness.specs.Clauses.{region_rules}
+use Rattle.taps.specs.Region.{taps_at}
 use Rattle.soundness.proofs.regions_sound.Goals as goal
 
 pub returns-then-not-stamps_within : goal.returns-then-not-stamps_within
@@ -25,7 +26,7 @@ returns-then-not-counted_sound c =
     simp (e, and-false)
 
 pub returns : goal.returns
-unfolding region_rules
+unfolding region_rules taps_at
 returns c =
     let e = sym c.stamps_within.ensures ∙ not-false _ c.if-not-stamps_within.false-raw in
     let f = rw c.lowest_of-low.ensures at (sym c.log_sound.ensures ∙ not-false _ c.if-not-log_sound.false-raw) in
