@@ -28,7 +28,7 @@ put_row_at-requires c =
     record {
       row_len = search rules;
       t = row-writable w.b.now c.requires.t w.m c.requires.m_value w.i c.requires.i_in_bounds.0
-          c.log_row-row.result c.log_row-row.ensures.0 _ c.screens_of.ensures.0;
+          c.log_row-row.result c.log_row-row.ensures _ c.screens_of.ensures.0;
     }
 
 pub returns : goal.returns
@@ -39,4 +39,4 @@ returns c =
     c.put_row_at.ensures
     ∙ ap₂ (λ (j : ℕ) (ys : List ℕ). patch (start_at i) j w.out.now ys) long
     (row-bytes w.b.now c.requires.t w.m c.requires.m_value i c.requires.i_in_bounds.0 c.log_row-row.result
-    c.log_row-row.ensures.0 _ c.screens_of.ensures.0)
+    c.log_row-row.ensures _ c.screens_of.ensures.0)
