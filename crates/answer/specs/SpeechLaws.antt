@@ -63,10 +63,10 @@ use Rattle.answer.specs.Speech.{kind_of, sayable, bytes_for, long_of, say_on, sa
 pub said-figures : (r : answer.Reply) → wire.figures (said_of r) ≡ figures (spoken r)
 said-figures (says.Taken s) = refl
 said-figures (says.Already s) = refl
-said-figures (says.Verdict v h a d s) = refl
+said-figures (says.Verdict v) = refl
 said-figures (says.Wait bits) = refl
-said-figures (says.Refused k) = refl
-said-figures (says.Gossiped new applied) = refl
+said-figures (says.Refused r) = refl
+said-figures (says.Gossiped g) = refl
 
 pub say-said : (r : answer.Reply) (out : List ℕ)
     → say_on (spoken r) out ≡ write_as (kind_of (spoken r)) (wire.figures (said_of r)) out
