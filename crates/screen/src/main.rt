@@ -31,7 +31,7 @@ fn read_on<R: Read>(input: &mut R, msg: &mut [u8], have: usize, n: usize) -> io:
 fn write_front(rt: &impl Print, out: &[u8], said: usize) -> io::Result<()>
     requires { said ≤ length out.now }
 {
-    rt.write_all(&out[0..said])
+    rt.write_all(&out[..said])
 }
 
 fn main(rt: HostRuntime) -> io::Result<()> {
@@ -43,11 +43,8 @@ fn main(rt: HostRuntime) -> io::Result<()> {
     let mut ended = false;
     let mut opened = false;
     // Every loop is proved to end: these are more turns than any input has bytes.
-    let mut turns = u64::MAX;
-    while turns > 0 {
-        turns -= 1;
-        let turn = next_turn(&mut book, &msg[0..have], ended, opened, &mut out);
-        match turn {
+    for _ in 0..u64::MAX {
+        match next_turn(&mut book, &msg[..have], ended, opened, &mut out) {
             Turn::Read(n) => {
                 let got = read_on(&mut input, &mut msg, have, n)?;
                 ended = got < n - have;
