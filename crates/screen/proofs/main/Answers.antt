@@ -1,5 +1,6 @@
 -- `screen::main` is safe and ends: what each turn asks for and says is within the arrays. Assumes nothing.
-use Rattle.std.proofs.Common.{rules, arith, ℕ, Bool, List, ◌≡◌, ◌≤◌, ◌<◌, length, take, length-take-le}
+use Rattle.std.proofs.Common.{rules, arith, ℕ, Bool, List, sym, ap, ◌∙◌, ◌≡◌, ◌≤◌, ◌<◌, length, take, length-take-le}
+use borrow.Rule.Slice.PartMut.{same_len_mid}
 use Rattle.limits.specs.Limits.{log_room}
 use Rattle.wire.specs.Kinds.{longest}
 use Rattle.lent.specs.Words.{book_long}
@@ -8,7 +9,7 @@ use Rattle.program.specs.Turn.{Turns, turn_on}
 use Rattle.program.specs.declared.Turn.{Turn}
 use Rattle.program.specs.declared.Turn.TheVariants.{Read}
 use Rattle.screen.proofs.main.Goals as goal
-use Rattle.screen.proofs.main.Goals.{in-Read+in_ok-got-in-Read, in-Say+in_ok-write_front-in-Say}
+use Rattle.screen.proofs.main.Goals.{in-Read+in_ok-got-in-Read, in-Say+in_ok-write_all-in-Say}
 
 -- a turn asks for more than is read, and for no more than the longest message
 asked :
@@ -22,22 +23,41 @@ pub loop-init : goal.loop-init
 unfolding book_long log_room
 loop-init c = search rules
 
-pub read_on-requires : goal.read_on-requires
-read_on-requires c =
+pub slice_bounds-read_full-count : goal.slice_bounds-read_full-count
+slice_bounds-read_full-count c =
     let l = c.loop in
-    let a = asked _ l.msg _ _ _ _ _ l.have _ _ c.next_turn.ensures c.in-Read.is (omega arith) in
-    (omega (arith, a.0), omega (arith, a.1))
+    omega (arith, (asked _ l.msg _ _ _ _ _ l.have _ _ c.next_turn.ensures c.in-Read.is (omega arith)).0)
+
+pub slice_bounds-msg-start : goal.slice_bounds-msg-start
+slice_bounds-msg-start c =
+    let l = c.loop in
+    omega (arith, (asked _ l.msg _ _ _ _ _ l.have _ _ c.next_turn.ensures c.in-Read.is (omega arith)).0)
+
+pub slice_bounds-msg-end-in-Read : goal.slice_bounds-msg-end-in-Read
+slice_bounds-msg-end-in-Read c =
+    let l = c.loop in
+    omega (arith, (asked _ l.msg _ _ _ _ _ l.have _ _ c.next_turn.ensures c.in-Read.is (omega arith)).1)
 
 pub overflow_sub-ended : goal.overflow_sub-ended
 overflow_sub-ended c =
     let l = c.loop in
     omega (arith, (asked _ l.msg _ _ _ _ _ l.have _ _ c.next_turn.ensures c.in-Read.is (omega arith)).0)
 
-pub write_front-requires : goal.write_front-requires
-write_front-requires c = (say-within _ _ _ _ _ _ _ _ c.next_turn.ensures _ _ c.in-Say.is).2
+pub slice_bounds-write_all-end : goal.slice_bounds-write_all-end
+slice_bounds-write_all-end c =
+    let w = say-within _ _ _ _ _ _ _ _ c.next_turn.ensures _ _ c.in-Say.is in
+    sym (length-take-le c.in-Say.said c.next_turn.new.out w.2)
 
-pub write_front-requires-in-Last : goal.write_front-requires-in-Last
-write_front-requires-in-Last c = last_within _ _ _ _ _ _ _ _ c.next_turn.ensures _ c.in-Last.is
+pub slice_bounds-out-end : goal.slice_bounds-out-end
+slice_bounds-out-end c = (say-within _ _ _ _ _ _ _ _ c.next_turn.ensures _ _ c.in-Say.is).2
+
+pub slice_bounds-write_all-end-in-Last : goal.slice_bounds-write_all-end-in-Last
+slice_bounds-write_all-end-in-Last c =
+    sym (length-take-le c.in-Last.said c.next_turn.new.out
+    (last_within _ _ _ _ _ _ _ _ c.next_turn.ensures _ c.in-Last.is))
+
+pub slice_bounds-out-end-in-Last : goal.slice_bounds-out-end-in-Last
+slice_bounds-out-end-in-Last c = last_within _ _ _ _ _ _ _ _ c.next_turn.ensures _ c.in-Last.is
 
 pub loop-preserved : goal.loop-preserved
 loop-preserved c =
@@ -45,6 +65,11 @@ loop-preserved c =
     elim c.match-next_turn.branch [
       | in-Read+in_ok-got-in-Read w ↦
           let a = asked _ l.msg _ _ _ _ _ l.have _ _ c.next_turn.ensures w.in-Read.is (omega arith) in
-          (search rules, search rules, search rules, omega (arith, a.0, a.1, w.in_ok-got-in-Read.ensures.ok, w.have-is))
-      | in-Say+in_ok-write_front-in-Say w ↦ (search rules, search rules, search rules, search rules)
+          let long = ap length w.msg-is ∙ same_len_mid l.have _ l.msg w.read_full.new.buf (search rules) ∙ l.invariant.1 in (
+            search rules,
+            long,
+            search rules,
+            omega (arith, a.0, a.1, w.in_ok-got-in-Read.ensures, w.have-is),
+          )
+      | in-Say+in_ok-write_all-in-Say w ↦ (search rules, search rules, search rules, search rules)
     ]
