@@ -7,7 +7,7 @@ use mathlib.Core.List.{List, ◌++◌}
 use mathlib.Core.Option.{Option, none, some}
 use borrow.Author.Tests.{le-ltb}
 use lib.Dec.{T, eqb}
-use lib.ListN.{length, get_or, take, drop}
+use lib.ListN.{length, get_or, drop}
 use Rattle.wire.specs.Kinds.{open_kind, refusal_kind, in_table, longest}
 use Rattle.wire.specs.Read.{line_of, readable}
 use Rattle.wire.specs.Write.{Output, Meets, writable, refuse}
@@ -156,14 +156,6 @@ module _ (ws msg out : List ℕ) (opened : Bool) where
         leaves = a.leaves ∙ sym f.leaves;
         writes = a.writes ∙ sym f.writes;
       })
-
--- the message is the part of what is read up to its end
-pub message-part :
-    (ws read : List ℕ) (opened : Bool) (out : List ℕ) (n k : ℕ) → k ≡ n → (t : Turn) (words bytes : List ℕ)
-    → Turns (message_turn ws (take k read) opened) t words out bytes
-    → Turns (message_turn ws (take n read) opened) t words out bytes
-message-part ws read opened out n k e t words bytes q =
-    subst (λ (x : ℕ). Turns (message_turn ws (take x read) opened) t words out bytes) e q
 
 -- by what is read
 pub turn-owes :

@@ -17,7 +17,7 @@ use wire::{BAD, Written};
 
 // Read until so many bytes are there in all, or the input ends; so many bytes of what is read are used up, and so many
 // at the output's front are said; so many are said, and the program stops; it stops without a word.
-#[derive(Clone, Copy)]
+#[derive(Clone, Copy, Debug, PartialEq, Eq)]
 pub enum Turn {
     Read(usize),
     Say { used: usize, said: usize },
@@ -40,17 +40,7 @@ fn last_refusal(number: u64, out: &mut [u8]) -> Turn
     }
 }
 
-// Whether the book is open and nothing of a next message is read.
-fn is_between(read: &[u8], opened: bool) -> bool
-    ensures { result ≡ (opened && eqb (length read.now) 0) }
-{
-    if !opened {
-        return false;
-    }
-    read.len() == 0
-}
-
-// What is read is no whole message yet, which needs n bytes.
+// What is read is no whole message yet, which needs n bytes. Only between two messages may the input end.
 fn more_turn(book: &[u64], read: &[u8], ended: bool, opened: bool, n: usize, out: &mut [u8]) -> Turn
     requires { longest ≤ length out.old }
     ensures { Turns (more_turn book.now read.now ended opened n) result book.now
@@ -59,7 +49,7 @@ fn more_turn(book: &[u64], read: &[u8], ended: bool, opened: bool, n: usize, out
     if !ended {
         return Turn::Read(n);
     }
-    if is_between(read, opened) {
+    if opened && read.is_empty() {
         return Turn::Stop;
     }
     last_refusal(BAD, out)
@@ -106,7 +96,7 @@ pub fn next_turn(book: &mut [u64], read: &[u8], ended: bool, opened: bool, out: 
     let frame = next_in(read, opened);
     match frame {
         Frame::More(n) => more_turn(book, read, ended, opened, n, out),
-        Frame::Whole(n) => message_turn(book, &read[0..n], opened, out),
+        Frame::Whole(n) => message_turn(book, &read[..n], opened, out),
         Frame::Stop => last_refusal(BAD, out),
     }
 }

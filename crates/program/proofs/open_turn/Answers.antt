@@ -2,14 +2,10 @@
 use Rattle.program.proofs.Owes.{opening-says, opens_silent, opens-refused}
 use Rattle.program.proofs.open_turn.Goals as goal
 
-pub last_refusal-requires : goal.last_refusal-requires
-last_refusal-requires c =
+pub last_refusal-requires-clause-t : goal.last_refusal-requires-clause-t
+last_refusal-requires-clause-t c =
     let w = c.args in
-    record {
-      t = opening-says w.book.now w.msg.now _ _ c.open_from-opening.ensures w.out.now _
-          c.in-Refused.is;
-      longest_in_bounds = c.requires;
-    }
+    opening-says w.book.now w.msg.now _ _ c.open_from-opening.ensures w.out.now _ c.in-Refused.is
 
 pub returns-in-Opened : goal.returns-in-Opened
 returns-in-Opened c =

@@ -11,16 +11,8 @@ use Rattle.send_step.proofs.Turn.{row-writable, row-bytes}
 use borrow.Author.Rules.{rules}
 use Rattle.send_step.proofs.put_record.Goals as goal
 
-pub log_row-row-requires : goal.log_row-row-requires
-log_row-row-requires c =
-    record {
-      held = lawful-held c.args.b.now c.requires.t;
-      i_in_bounds = c.requires.i_in_bounds.0;
-    }
-
 pub screens_of-requires : goal.screens_of-requires
-screens_of-requires c =
-    lawful-held c.args.b.now c.requires.t
+screens_of-requires c = lawful-held c.args.b.now c.requires.t
 
 pub put_row_at-requires : goal.put_row_at-requires
 put_row_at-requires c =
