@@ -16,8 +16,8 @@ pub known_of-known-requires : goal.known_of-known-requires
 known_of-known-requires c =
     let ws = c.args.b.now in
     record {
-      held = lawful-held ws c.requires.t;
-      b_bound = me_in (book_of ws) (lawful-sound ws c.requires.t);
+      held = lawful-held ws c.requires.sound;
+      b_bound = me_in (book_of ws) (lawful-sound ws c.requires.sound);
     }
 
 pub look_at-look-requires : goal.look_at-look-requires
@@ -29,33 +29,33 @@ look_at-look-requires c =
       msg_value = h.number;
       known_len = (
         search rules,
-        house-few w.b.now w.msg.now w.sender w.screens w.count (list_of w.stamp) c.requires.t h
-            c.requires.stamp_value,
+        house-few w.b.now w.msg.now w.head.sender w.head.screens w.head.count (list_of w.head.stamp) c.requires.sound h
+            c.requires.stamp_stands,
       );
     }
 
 pub returns-then-not-look : goal.returns-then-not-look
 returns-then-not-look c =
     let w = c.args in
-    gap-refused w.b.now w.msg.now w.sender w.screens w.count (list_of w.stamp) c.requires.t
-    c.requires.heard c.requires.stamp_value
+    gap-refused w.b.now w.msg.now w.head.sender w.head.screens w.head.count (list_of w.head.stamp) c.requires.sound
+    c.requires.heard c.requires.stamp_stands
     _ c.known_of-known.ensures.0 _ c.look_at-look.ensures.whole_value (not-true _ c.if-not-look.true)
 
 pub logged_of-requires : goal.logged_of-requires
 logged_of-requires c =
-    lawful-held c.args.b.now c.requires.t
+    lawful-held c.args.b.now c.requires.sound
 
 pub overflow_add-logged_of : goal.overflow_add-logged_of
 overflow_add-logged_of c =
     let w = c.args in
-    let few = count-few w.msg.now w.sender w.screens w.count (list_of w.stamp) c.requires.heard in
+    let few = count-few w.msg.now w.head.sender w.head.screens w.head.count (list_of w.head.stamp) c.requires.heard in
     record { fits = omega (arith, c.logged_of.ensures.2, c.look_at-look.ensures.result_after.1, few, log_small) }
 
 pub returns-then-log_room-logged_of : goal.returns-then-log_room-logged_of
 returns-then-log_room-logged_of c =
     let w = c.args in
-    room-refused w.b.now w.msg.now w.sender w.screens w.count (list_of w.stamp) c.requires.t
-    c.requires.heard c.requires.stamp_value
+    room-refused w.b.now w.msg.now w.head.sender w.head.screens w.head.count (list_of w.head.stamp) c.requires.sound
+    c.requires.heard c.requires.stamp_stands
     _ c.known_of-known.ensures.0 _ c.look_at-look.ensures.whole_value (not-false _ c.if-not-look.false) _
     c.look_at-look.ensures.result_after.0 _ c.logged_of.ensures.0
     (omega (arith, c.log_room.ensures, c.if-log_room-logged_of.true))
@@ -64,18 +64,15 @@ pub returns : goal.returns
 returns c =
     let w = c.args in
     let whole = not-false _ c.if-not-look.false in (
-      unrefused w.b.now w.msg.now w.sender w.screens w.count (list_of w.stamp) c.requires.t
-          c.requires.heard c.requires.stamp_value
+      unrefused w.b.now w.msg.now w.head.sender w.head.screens w.head.count (list_of w.head.stamp) c.requires.sound
+          c.requires.heard c.requires.stamp_stands
           _ c.known_of-known.ensures.0 _ c.look_at-look.ensures.whole_value whole _
           c.look_at-look.ensures.result_after.0 _
           c.logged_of.ensures.0
           (omega (arith, c.log_room.ensures, c.if-log_room-logged_of.false)),
       refl,
-      refl,
-      refl,
-      refl,
-      new_is w.b.now w.msg.now w.sender w.screens w.count (list_of w.stamp) c.requires.t
-          c.requires.heard c.requires.stamp_value
+      new_is w.b.now w.msg.now w.head.sender w.head.screens w.head.count (list_of w.head.stamp) c.requires.sound
+          c.requires.heard c.requires.stamp_stands
           _ c.known_of-known.ensures.0 _ c.look_at-look.ensures.whole_value whole _
           c.look_at-look.ensures.result_after.0,
     )
