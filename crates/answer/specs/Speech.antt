@@ -4,6 +4,7 @@ use Rattle.wire.specs.Kinds.{Kind, taken_kind, already_kind, verdict_kind, wait_
 use Rattle.wire.specs.Kinds.{message_long}
 use Rattle.wire.specs.Write.{Output, writable, written, write_as}
 use Rattle.wire.specs.Refusal.{table_number}
+use Rattle.wire.specs.declared.Refusal.{Refusal}
 use Rattle.wire.specs.Says.{Said, verdict_says, gossip_taken_says}
 use Rattle.wire.specs.Says as said
 use Rattle.meaning.specs.Reply.{Reply, taken, already, verdict, wait, refusal, gossiped, figures}
@@ -25,6 +26,10 @@ sayable r = writable (kind_of r) (figures r)
 
 unfoldable pub bytes_for : Reply → List ℕ
 bytes_for r = written (kind_of r) (figures r)
+
+-- a refusal's bytes: 09, and its number in the table
+abbrev pub refusal_bytes : Refusal → List ℕ
+refusal_bytes r = bytes_for (refusal (table_number r))
 
 -- how long they are, by the kind's number
 abbrev pub long_of : Reply → ℕ
