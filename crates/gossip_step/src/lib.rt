@@ -30,7 +30,7 @@ use lent::{
     known_of, log_end, log_start, logged_of, raise_row, ready_of, row_of, screen_of, screens_of,
     set_logged,
 };
-use limits::{book_room, log_room};
+use limits::{PARTS, book_room, log_room};
 use promise::Reply;
 use settle::settle_book;
 use stamp::{Parts, at_most, list_of, merge_into, parts_at, sum};
@@ -118,7 +118,7 @@ fn merge_at(
     count: usize,
     n: usize,
     m: Parts,
-    known: &[u64],
+    known: &[u64; PARTS],
 )
     requires a_le_e { (a ≤ e) × (e ≤ length b.old) × ((logged + new) * row_long ≤ e - a) }
     requires coming { Coming msg.now n count (list_of m) known.now new }
@@ -139,7 +139,7 @@ pub fn take_new(
     count: usize,
     n: usize,
     m: Parts,
-    known: &[u64],
+    known: &[u64; PARTS],
 )
     requires held { Held b.old }
     requires coming { Coming msg.now n count (list_of m) known.now new }
@@ -174,7 +174,7 @@ pub struct Incoming {
 
 // What a gossip does that nothing stops, `old` being the known stamp and `new` the number of its new records. Gives how
 // many records became applied.
-fn take_in(b: &mut [u64], msg: &[u8], incoming: Incoming, old: &[u64]) -> u64
+fn take_in(b: &mut [u64], msg: &[u8], incoming: Incoming, old: &[u64; PARTS]) -> u64
     requires sound { T (lawful b.old) }
     requires heard { Hears msg.now incoming.head }
     requires gossip_done { GossipDone (book_of b.old) (message_of msg.now) }
@@ -210,23 +210,19 @@ fn stop_records(b: &[u64], msg: &[u8], head: Head) -> Result<Incoming, Reply>
     ensures { StopsGossip (book_of b.now) (message_of msg.now) head result }
 {
     let known = known_of(b);
-    let look = look_at(
+    let Some(new) = look_at(
         msg,
         head.count as usize,
         head.screens as usize,
         head.stamp,
         &known,
-    );
-    if !look.whole {
+    ) else {
         return Err(Reply::Refused(Refusal::Gap));
-    }
-    if log_room() < (logged_of(b) + look.new) as u64 {
+    };
+    if log_room() < (logged_of(b) + new) as u64 {
         return Err(Reply::Refused(Refusal::NoRoom));
     }
-    Ok(Incoming {
-        head,
-        new: look.new,
-    })
+    Ok(Incoming { head, new })
 }
 
 // A well formed gossip, its head read, where it may be taken; or the reply that stops it. No word changes.

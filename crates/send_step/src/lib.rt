@@ -1,5 +1,5 @@
 // Send: the known stamp and the whole log as one gossip message at the front of a lent output.
-#![tactic(auto)]
+#![tactic(auto, using(crate::proofs::Held::held))]
 
 ghost use Rattle.std.specs.Prelude.{◌≡◌, ◌+◌, ◌-◌, ◌≤◌, ◌<◌, T, length, get_or};
 ghost use Rattle.lists.specs.Part.{patch};

@@ -42,9 +42,8 @@ settle_book-requires c =
     let give = new-gives w.b.now w.msg.now w.incoming.head.sender w.incoming.head.screens w.incoming.head.count
     (list_of w.incoming.head.stamp) in
     let all = give c.requires.sound c.requires.heard c.requires.gossip_done _ c.list_of-s.ensures _ c.raise_rows.ensures
-    w.old.now c.requires.old_known w.incoming.new c.requires.new_number _ c.take_new.ensures _ c.ready_of-before.ensures.0
-    c.ready_of-before.ensures.1 in
-    record { held = all.0; b_bound = all.1.0; before_len = all.1.1.0; appliable = all.1.1.1 }
+    w.old.now c.requires.old_known w.incoming.new c.requires.new_number _ c.take_new.ensures _ c.ready_of-before.ensures.0 in
+    record { held = all.0; b_bound = all.1.0; appliable = all.1.1 }
 
 pub returns : goal.returns
 returns c =
