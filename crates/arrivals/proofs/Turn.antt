@@ -4,17 +4,16 @@ use native.Mathlib.Numerals.{add-one}
 use native.Mathlib.Omega.{arith}
 use mathlib.Core.Path.{◌≡◌, sym, ap, ap₂, subst, ◌∙◌}
 use mathlib.Core.Logic.{◌≢◌}
-use mathlib.Core.Bool.{true, false, not}
+use mathlib.Core.Bool.{Bool, true, false, not}
 use mathlib.Core.List.{List, [], ◌∷◌, ◌++◌, map, append-nil}
 use lib.Dec.{T, leb}
-use lib.ListN.{length, get_or, take, drop, drop_of_length-le}
+use lib.ListN.{length, get_or, take, drop, drop_of_length-le, length-append}
 use lib.Seq.{take_all, take-suc, drop-cons}
 use Rattle.limits.specs.Limits.{parts}
-use Rattle.lists.specs.TestLaws.{and_r, bit, is_true, keep-length}
+use Rattle.lists.specs.TestLaws.{clash, and_r, bit, is_true, keep-length}
 use Rattle.lists.specs.Order.{rising}
 use Rattle.lists.specs.Tests.{all_below, every, keep}
 use Rattle.stamp.specs.Parts.{parts_at, list_of}
-use Rattle.stamp.specs.PartsLaws.{whole-stamp}
 use Rattle.stamp.specs.Stamp.{Stamp, part}
 use Rattle.stamp.specs.declared.Parts.{Parts}
 use Rattle.tally.specs.Tap.{FitsBits, tap_fits, fields, word_of}
@@ -29,9 +28,11 @@ use Rattle.log_edit.specs.OrderLaws.{keep_append}
 use Rattle.wire.specs.Kinds.{Kind, record_kind, tap_at, head_long, record_long}
 use Rattle.wire.proofs.Laws.{lawful_record}
 use Rattle.wire.specs.Read.{line_of, readable, read_as}
-use Rattle.wire.proofs.ReadLaws.{told_line}
-use Rattle.wire.specs.declared.Said.{Said}
-use Rattle.wire.specs.declared.Said.TheVariants as said
+use Rattle.wire.proofs.ReadLaws.{told_line, unread}
+use Rattle.wire.specs.declared.Refusal.{Refusal}
+use Rattle.std.specs.Prelude.{Ok, Err}
+use Rattle.wire.specs.Says.{Said}
+use Rattle.wire.specs.Says as said
 use Rattle.message.specs.Find.{part_at}
 use Rattle.wire.specs.Head.{count_in}
 use Rattle.message.specs.Message.{records_kind, record_parts, record_from, records_in, in_order, well_formed}
@@ -68,21 +69,15 @@ module _ (bytes : List ℕ) (n : ℕ) (m : Stamp) (h : Head bytes n m) (i : ℕ)
   readable-at : T (readable (record_kind n m) (part_at i bytes))
   readable-at = subst (λ (k : Kind). T (readable k (part_at i bytes))) kind_in_lem (record-held bytes h.formed i l).0
 
-  pub never_other :
-      (v : Said) → v ≡ read_as (record_kind n m) (part_at i bytes)
-      → ((o q : ℕ) (p : Parts) (t : Tap) → v ≢ said.Record o q p t) → ⊥
-  unfolding read_as record_kind
-  never_other v read other =
-      let line = line_of (record_kind n m) (part_at i bytes) in
-      let e : v ≡ said.Record (get_or line 1 0) (get_or line 2 0) (parts_at 3 line) (tap_at (3 + parts) line) = read
-      ∙ rw (is_true (readable (record_kind n m) (part_at i bytes)) readable-at) in
-      other (get_or line 1 0) (get_or line 2 0) (parts_at 3 line) (tap_at (3 + parts) line) e
+  pub never_refused : (r : Refusal) → Err r ≡ read_as (record_kind n m) (part_at i bytes) → ⊥
+  never_refused r read = clash (readable (record_kind n m) (part_at i bytes)) readable-at
+      (subst (λ (b : Bool). T (not b)) (sym (unread (record_kind n m) (part_at i bytes) r read).0) tt)
 
-  module _ (o q : ℕ) (p : Parts) (t : Tap) (read : said.Record o q p t ≡ read_as (record_kind n m) (part_at i bytes))
+  module _ (o q : ℕ) (p : Parts) (t : Tap) (read : Ok (said.Record o q p t) ≡ read_as (record_kind n m) (part_at i bytes))
     where
       line_at : line_of (record_kind n m) (part_at i bytes) ≡ 2 ∷ o ∷ q ∷ list_of p ++ fields t
       line_at =
-          told_line (record_kind n m) (part_at i bytes) (said.Record o q p t) read (lawful_record n m) (omega arith)
+          told_line (record_kind n m) (part_at i bytes) (said.Record o q p t) read (lawful_record n m)
 
       pub tap-bits : FitsBits t
       unfolding list_of
@@ -162,15 +157,18 @@ module _ (bytes : List ℕ) (w : T (well_formed bytes)) (k : ℕ) (some : 0 < k)
   unfolding unknowns
   last-new t = split ∙ rw t
 
--- no number is missing: the climb from a copy of the known stamp reaches m
+  -- and so one more than without it
+  pub last-left : is_known known r ≡ false → length (unknowns known (take k (records_in bytes)))
+      ≡ length (unknowns known (take (k - 1) (records_in bytes))) + 1
+  last-left t = ap length (last-new t) ∙ length-append (unknowns known (take (k - 1) (records_in bytes))) (r ∷ [])
+
+-- no number is missing: the climb from the known stamp reaches m
 pub look-whole :
-    (bytes : List ℕ) → T (well_formed bytes) → (n : ℕ) (known m s reached : Stamp)
-    → (length known ≡ stamp_long) × (n ≤ stamp_long) → s ≡ m
-    → reached ≡ climb (list_of (parts_at 0 known)) (records_in bytes)
+    (bytes : List ℕ) → T (well_formed bytes) → (n : ℕ) (known m s reached : Stamp) → length known ≡ stamp_long
+    → n ≤ stamp_long → s ≡ m → reached ≡ climb known (records_in bytes)
     → all_below n (λ k. leb (part s k) (part reached k)) ≡ holds_all n known m (records_in bytes)
 unfolding in_order records_in
-look-whole bytes w n known m s reached h e f =
+look-whole bytes w n known m s reached long few e f =
     let order = and_r (every (readable (records_kind bytes)) (record_parts bytes))
     (rising place (map (record_from (records_kind bytes)) (record_parts bytes))) (well-order bytes w) in
-    rw (e, f, whole-stamp known h.0)
-    (sym (climb-holds n known m (records_in bytes) order (omega (arith, h.0, h.1))))
+    rw (e, f) (sym (climb-holds n known m (records_in bytes) order (omega arith)))

@@ -2,8 +2,8 @@
 // region.
 #![tactic(auto)]
 
-ghost use Rattle.std.specs.Prelude.{◌≡◌, not, ◌+◌, ◌*◌, ◌≤◌, ◌<◌, length};
-ghost use Rattle.lists.specs.TestLaws.{bit};
+ghost use Rattle.std.specs.Prelude.{◌≡◌, ◌+◌, ◌*◌, ◌≤◌, ◌<◌, length};
+ghost use Rattle.std.specs.Bool.{then_some};
 ghost use Rattle.stamp.specs.Parts.{list_of};
 ghost use Rattle.ledger.specs.Log.{unknowns};
 ghost use Rattle.ledger.specs.Record.{is_known};
@@ -15,11 +15,11 @@ ghost use Rattle.message.specs.Message.{records_in};
 ghost use Rattle.arrivals.specs.Head.{Head, record_no};
 
 use book_log::{ROW, climb_row, first_at_most, is_known, make_row};
+use limits::PARTS;
 use log_edit::slide_in;
 use message::record_at;
-use stamp::{Parts, list_of, parts_at};
+use stamp::{Parts, list_of};
 use tally::pack;
-use wire::Said;
 
 // The row of record i. The head has n screens and stamp m.
 fn row_for(msg: &[u8], i: usize, n: usize, m: Parts) -> [u64; ROW]
@@ -27,70 +27,48 @@ fn row_for(msg: &[u8], i: usize, n: usize, m: Parts) -> [u64; ROW]
     requires i_bound { i < count_in msg.now }
     ensures { record_at result ≡ record_no msg.now i }
 {
-    let next = record_at(msg, i, n, m);
-    let Said::Record {
-        origin,
-        number,
-        label,
-        tap,
-    } = next
-    else {
+    let Ok(record) = record_at(msg, i, n, m) else {
         return [0u64; ROW];
     };
-    make_row(origin, number, label, pack(tap))
-}
-
-// One if a row's record is not known under a stamp, and else zero.
-fn one_new(row: &[u64], known: &[u64]) -> usize
-    requires { length row.now ≡ row_long }
-    ensures { (result ≡ bit (not (is_known known.now (record_at row.now)))) × (result ≤ 1) }
-{
-    if is_known(row, known) { 0 } else { 1 }
+    make_row(record.origin, record.number, record.label, pack(record.tap))
 }
 
 // One pass over the records: how far the numbers of each origin go without a gap from those reached, written over them.
 // Gives how many records are not known under a stamp.
-fn survey(msg: &[u8], count: usize, n: usize, m: Parts, known: &[u64], reached: &mut [u64]) -> usize
+fn survey(
+    msg: &[u8],
+    count: usize,
+    n: usize,
+    m: Parts,
+    known: &[u64; PARTS],
+    reached: &mut [u64; PARTS],
+) -> usize
     requires head { Head msg.now n (list_of m) }
     requires msg_value { count_in msg.now ≡ count }
-    ensures reached_after { (reached.new ≡ climb reached.old (records_in msg.now))
-        × (length reached.new ≡ length reached.old) }
+    ensures reached_after { reached.new ≡ climb reached.old (records_in msg.now) }
     ensures value { (result ≡ length (unknowns known.now (records_in msg.now))) × (result ≤ count) }
 {
-    let mut new = 0;
-    let mut i = 0;
-    while i < count {
+    let mut new: usize = 0;
+    for i in 0..count {
         let row = row_for(msg, i, n, m);
         climb_row(&row, reached);
-        new += one_new(&row, known);
-        i += 1;
+        new += usize::from(!is_known(&row, known));
     }
     new
 }
 
-// What the records come to under a known stamp: whether each that m counts is known or there, and how many are new.
-#[derive(Clone, Copy)]
-pub struct Look {
-    pub whole: bool,
-    pub new: usize,
-}
-
-// The records looked at for a house of n screens.
-pub fn look_at(msg: &[u8], count: usize, n: usize, m: Parts, known: &[u64]) -> Look
+// How many records are new under a known stamp; nothing where one that m counts is neither known nor there.
+pub fn look_at(msg: &[u8], count: usize, n: usize, m: Parts, known: &[u64; PARTS]) -> Option<usize>
     requires head { Head msg.now n (list_of m) }
     requires msg_value { count_in msg.now ≡ count }
-    requires known_len { (length known.now ≡ stamp_long) × (n ≤ stamp_long) }
-    ensures whole_value { result.whole ≡ holds_all n known.now (list_of m) (records_in msg.now) }
-    ensures result_after { (result.new ≡ length (unknowns known.now (records_in msg.now)))
-        × (result.new ≤ count) }
+    requires n_bound { n ≤ stamp_long }
+    ensures value { result ≡ then_some (holds_all n known.now (list_of m) (records_in msg.now))
+        (length (unknowns known.now (records_in msg.now))) }
+    ensures few { length (unknowns known.now (records_in msg.now)) ≤ count }
 {
-    let mut reached = list_of(parts_at(known, 0));
+    let mut reached = *known;
     let new = survey(msg, count, n, m, known, &mut reached);
-    let s = list_of(m);
-    Look {
-        whole: first_at_most(&s, &reached, n),
-        new: new,
-    }
+    first_at_most(&list_of(m), &reached, n).then_some(new)
 }
 
 // The records that are not known under a stamp, merged into the first rows of the log's region over a gap of as many
@@ -104,7 +82,7 @@ pub fn merge_new(
     count: usize,
     n: usize,
     m: Parts,
-    known: &[u64],
+    known: &[u64; PARTS],
 )
     requires head { Head msg.now n (list_of m) }
     requires msg_value { count_in msg.now ≡ count }
@@ -116,9 +94,7 @@ pub fn merge_new(
 {
     let mut i = logged;
     let mut gap = new;
-    let mut k = count;
-    while 0 < k {
-        k -= 1;
+    for k in (0..count).rev() {
         let row = row_for(msg, k, n, m);
         if is_known(&row, known) {
             continue;

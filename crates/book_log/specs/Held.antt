@@ -1,6 +1,6 @@
 -- No number missing, found in one pass: a stamp that climbs by each record that is the next of its origin. Assumes
 -- nothing.
-use Rattle.std.specs.Prelude.{ℕ, suc, Bool, ◌||◌, cond, List, [], ◌∷◌, leb, eqb, set}
+use Rattle.std.specs.Prelude.{ℕ, suc, Bool, ◌||◌, cond, List, leb, eqb, set, fold}
 use Rattle.lists.specs.Tests.{all_below}
 use Rattle.stamp.specs.Stamp.{Stamp, part}
 use Rattle.ledger.specs.Record.{Record, has}
@@ -18,5 +18,4 @@ abbrev pub climbed : Stamp → Record → Stamp
 climbed s r = set s r.origin (raised (part s r.origin) r.number)
 
 unfoldable pub climb : Stamp → List Record → Stamp
-climb s [] = s
-climb s (r ∷ rs) = climb (climbed s r) rs
+climb s rs = fold climbed s rs

@@ -1,6 +1,6 @@
 -- The lowest stamp of a table, the smaller in each part: it alone says what is known everywhere and what may go.
 -- Assumes nothing.
-use Rattle.std.specs.Prelude.{min, Bool, ◌&&◌, List, [], ◌∷◌}
+use Rattle.std.specs.Prelude.{min, Bool, ◌&&◌, List, [], ◌∷◌, fold}
 use Rattle.std.proofs.Math.Dec.{leb}
 use Rattle.stamp.specs.Stamp.{Stamp, part}
 use Rattle.ledger.specs.Record.{Record, is_applied}
@@ -13,8 +13,7 @@ meet (x ∷ a) (y ∷ b) = min x y ∷ meet a b
 
 -- a stamp met with each row
 unfoldable pub lowest_from : Stamp → List Stamp → Stamp
-lowest_from s [] = s
-lowest_from s (r ∷ rows) = lowest_from (meet s r) rows
+lowest_from s rows = fold meet s rows
 
 -- applied under the ready stamp, and at most the lowest stamp's part
 unfoldable pub goes_by : Stamp → Stamp → Record → Bool

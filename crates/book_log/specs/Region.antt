@@ -26,9 +26,12 @@ record_at c = record {
 abbrev pub row_of : Record → List ℕ
 row_of r = r.origin ∷ r.number ∷ r.label ++ (r.body ∷ [])
 
--- the records that the first n rows hold
+-- the records that some rows hold, and those that the first n rows hold
+abbrev pub records_of : List (List ℕ) → List Record
+records_of rs = map record_at rs
+
 unfoldable pub records_at : ℕ → List ℕ → List Record
-records_at n r = map record_at (rows row_long n r)
+records_at n r = records_of (rows row_long n r)
 
 -- some records over a region of so many rows
 unfoldable pub log_words : ℕ → List Record → List ℕ

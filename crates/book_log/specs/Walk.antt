@@ -2,10 +2,11 @@
 --     records-all    from the front it is all of them
 --     records-next   the row at the place, and those past it
 --     records-none   past the last row there are none
---     record-lent    the row at the place, as it is lent
-use Rattle.std.specs.Prelude.{ℕ, suc, ◌+◌, ◌-◌, ◌≤◌, ◌<◌, ◌≡◌, List, [], ◌∷◌, take, drop}
-use Rattle.std.proofs.Common.{arith, drop-drop}
+--     row_lent       the i-th row, as it is lent
+use Rattle.std.specs.Prelude.{ℕ, suc, ◌+◌, ◌-◌, ◌*◌, ◌≤◌, ◌<◌, ◌≡◌, List, [], ◌∷◌, take, drop, get_or}
+use Rattle.std.proofs.Common.{arith, ap, drop-drop}
 use Rattle.std.proofs.Math.Nat.{sub-zero}
+use Rattle.lists.specs.RowLaws.{rows_at}
 use Rattle.lists.specs.Rows.{rows}
 use Rattle.ledger.specs.Record.{Record}
 use Rattle.book_log.specs.Region.{row_long, record_at, records_at}
@@ -35,12 +36,8 @@ records-none n r i at h =
     let e : n - i ≡ 0 = omega arith in
     rw e
 
--- the same row lent as a part
-abbrev pub lent_at : List ℕ → ℕ → Record
-lent_at r at = record_at (take (at + row_long - at) (drop at r))
-
-pub record-lent : (r : List ℕ) (at : ℕ) → lent_at r at ≡ row_record r at
+-- the row lent as an array
+pub row_lent : (rs : List (List ℕ)) (n : ℕ) (r : List ℕ) (i : ℕ) → rs ≡ rows row_long n r → i < n
+    → record_at (get_or rs i []) ≡ row_record r (i * row_long)
 unfolding row_record
-record-lent r at =
-    let e : at + row_long - at ≡ row_long = omega arith in
-    rw e
+row_lent rs n r i e h = rw e (ap record_at (rows_at row_long n r i h))

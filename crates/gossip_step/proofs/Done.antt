@@ -18,7 +18,6 @@ use Rattle.meaning.proofs.SettleLaws as meaning
 use Rattle.meaning.specs.Step.{now_ready, now_applied, new_ones, gossip_rows, hear_book}
 use Rattle.meaning.specs.Done.{GossipDone}
 use Rattle.meaning.proofs.StepLaws.{gossip-now, gossip-ready}
-use Rattle.book_log.specs.Region.{stamp_long}
 use Rattle.lent.specs.Held.{Held, held_is, book_is}
 use Rattle.lent.specs.SoundWords.{lawful-sound}
 use Rattle.lent.specs.With.{with_table, with_log}
@@ -133,11 +132,9 @@ module _ (ws bytes : List ℕ) (j n count : ℕ) (m : Stamp) (w : T (lawful ws))
             all-ready = rw (o', new-book) (in-place-ready b rows new sound-now ready-now)
 
             pub new-gives :
-                length before ≡ stamp_long
-                → Held us
-                × (((book_of us).me < (book_of us).screens)
-                × ((length before ≡ stamp_long) × Appliable before (ready (book_of us)) (book_of us)))
-            new-gives long = (new-held, (still-me, (long, all-ready)))
+                Held us
+                × (((book_of us).me < (book_of us).screens) × Appliable before (ready (book_of us)) (book_of us))
+            new-gives = (new-held, (still-me, all-ready))
 
             book-settled : words_of (settled before (book_of us)) ≡ words_of (hear_book (book_of ws) (message_of bytes))
             unfolding hear_book

@@ -1,11 +1,13 @@
 -- What stops a gossip on a sound book: a refusal by the stamp, one by the records, or nothing. Assumes nothing.
 use Prim.Native.Nat.{ℕ, suc, ◌+◌, ◌≤◌, ◌<◌}
 use native.Mathlib.Omega.{arith}
-use mathlib.Core.Path.{◌≡◌, sym, ap₂, ◌∙◌}
+use mathlib.Core.Path.{◌≡◌, refl, sym, ap₂, ◌∙◌}
 use mathlib.Core.Logic.{◌≢◌}
 use mathlib.Core.Bool.{Bool, true, false}
 use mathlib.Core.List.{List}
 use mathlib.Core.Option.{none, some}
+use Rattle.std.specs.Prelude.{None, Some}
+use Rattle.std.specs.Bool.{then_some}
 use borrow.Author.Tests.{lt-ltb, le-ltb}
 use lib.Dec.{T}
 use lib.ListN.{length}
@@ -29,6 +31,15 @@ use Rattle.gossip_step.specs.Refusals.{stamp_refusal, record_refusal}
 use Rattle.gossip_step.specs.RefusalLaws.{stamp-stops, records_stop, unstopped, same-house}
 use Rattle.gossip_step.specs.Heard.{Heard}
 use Rattle.gossip_step.proofs.Message.{sender_is, screens_is, stamp_is, message-fits, records_are}
+
+-- what a look at the records says that gives a number, or none
+pub told : (whole : Bool) (new k : ℕ) → then_some whole new ≡ Some k → (whole ≡ true) × (k ≡ new)
+told true new k e = (refl, cc)
+told false new k e = absurd (cc)
+
+pub untold : (whole : Bool) (new : ℕ) → then_some whole new ≡ None → whole ≡ false
+untold true new e = absurd (cc)
+untold false new e = refl
 
 module _ (ws bytes : List ℕ) (j n count : ℕ) (m : Stamp) (w : T (lawful ws)) (h : Heard bytes j n count m) where
   sound-now : T (sound (book_of ws))

@@ -1,7 +1,7 @@
 // The lent book: where each piece stands on the slice, and every way in which a held book is read and changed.
 #![tactic(auto)]
 
-ghost use Rattle.std.specs.Prelude.{◌≡◌, not, [], ◌∷◌, ◌+◌, ◌-◌, ◌*◌, ◌≤◌, ◌<◌, T, length, get_or, set};
+ghost use Rattle.std.specs.Prelude.{◌≡◌, not, [], ◌∷◌, ◌+◌, ◌-◌, ◌*◌, ◌≤◌, ◌<◌, ◌==◌, T, length, get_or, position, set};
 ghost use Rattle.lists.specs.Order.{rising, insert};
 ghost use Rattle.lists.specs.Part.{mid, patch};
 ghost use Rattle.limits.specs.Limits.{parts, most, prompt_count, log_room, book_room, count_limit};
@@ -10,9 +10,8 @@ ghost use Rattle.stamp.specs.Stamp.{merge, replace};
 ghost use Rattle.tally.specs.Standing.{CountsFit, among, blank};
 ghost use Rattle.tally.specs.Tap.{fields, tap_of};
 ghost use Rattle.ledger.specs.Log.{gathered, remaining};
-ghost use Rattle.book_log.specs.First.{first_with};
 ghost use Rattle.book_log.specs.Lowest.{lowest_from};
-ghost use Rattle.book_log.specs.Region.{row_long, record_at, records_at};
+ghost use Rattle.book_log.specs.Region.{row_long, record_at, records_at, records_of};
 ghost use Rattle.log_edit.specs.Merge.{Fresh, merged, stayers, dropped};
 ghost use Rattle.taps.specs.Region.{taps_at, inserted_at};
 ghost use Rattle.prompts.specs.Region.{prompt_words, standings_at, standing_words, noted_at};
@@ -24,7 +23,7 @@ ghost use Rattle.lent.specs.With.{with_table, with_value, with_log, with_counted
 ghost use Rattle.lent.specs.Words.{Logged, Table, Value, Log, Counted, Prompts, size, from, book_long, piece};
 ghost use Rattle.lent.specs.Words.{book_of, words_of};
 
-use book_log::{BODY, LABEL, NUMBER, ORIGIN, ROW, find_body, lowest, make_row};
+use book_log::{ROW, find_body, lowest, rows_of};
 use limits::{BOOK_ROOM, LOG_ROOM, MOST, PARTS};
 use log_edit::{drop_rows, put_one};
 use prompts::{PROMPT_WORDS, note, standing_at};
@@ -170,34 +169,29 @@ pub fn value_of(b: &[u64]) -> Parts
     parts_at(b, VALUE)
 }
 
-// The row at a place.
-fn row_at(b: &[u64], at: usize) -> [u64; ROW]
-    requires { at + row_long ≤ length b.now }
-    ensures { (record_at result ≡ record_at (mid at row_long b.now)) × (length result ≡ row_long) }
+// The log's rows, one for each record.
+pub fn log_rows(b: &[u64]) -> &[[u64; ROW]]
+    requires { Held b.now }
+    ensures { (records_of result.now ≡ (book_of b.now).log) × (length result.now ≡ length (book_of b.now).log) }
 {
-    make_row(
-        b[at + ORIGIN],
-        b[at + NUMBER],
-        parts_at(b, at + LABEL),
-        b[at + BODY],
-    )
+    rows_of::<ROW>(log_words(b), logged_of(b))
 }
 
 // The row of the log's i-th record.
 pub fn log_row(b: &[u64], i: usize) -> [u64; ROW]
     requires held { Held b.now }
     requires i_in_bounds { i < length (book_of b.now).log }
-    ensures { (record_at result ≡ get_or (book_of b.now).log i no_record) × (length result ≡ row_long) }
+    ensures { record_at result ≡ get_or (book_of b.now).log i no_record }
 {
-    row_at(b, LOG + i * ROW)
+    log_rows(b)[i]
 }
 
-// The log's first record with body w, or past its last.
-pub fn find_logged(b: &[u64], w: u64) -> usize
+// Where the log's first record with body w stands.
+pub fn find_logged(b: &[u64], w: u64) -> Option<usize>
     requires { Held b.now }
-    ensures { result ≡ first_with w (book_of b.now).log }
+    ensures { result ≡ position (λ r. r.body == w) (book_of b.now).log }
 {
-    find_body(log_words(b), logged_of(b), w)
+    find_body(log_rows(b), w)
 }
 
 // Whether the tap of w is counted.
@@ -221,12 +215,10 @@ pub fn standing_of(b: &[u64], prompt: u64) -> Standing
 fn low_of(b: &[u64]) -> [u64; PARTS]
     requires held { Held b.now }
     requires b_bound { (book_of b.now).me < (book_of b.now).screens }
-    ensures { (result ≡ lowest_from (known (book_of b.now)) (book_of b.now).table)
-        × (length result ≡ parts) }
+    ensures { result ≡ lowest_from (known (book_of b.now)) (book_of b.now).table }
 {
-    let mut low = known_of(b);
-    lowest(table_words(b), screens_of(b) as usize, &mut low);
-    low
+    let rows = rows_of::<PARTS>(table_words(b), screens_of(b) as usize);
+    lowest(&known_of(b), rows)
 }
 
 // A stamp merged into the one that stands from a up to e.
@@ -239,9 +231,8 @@ fn merge_at(b: &mut [u64], a: usize, e: usize, s: &[u64])
 }
 
 // A stamp merged into the value stamp.
-pub fn merge_value(b: &mut [u64], s: &[u64])
-    requires held { Held b.old }
-    requires s_len { length s.now ≡ parts }
+pub fn merge_value(b: &mut [u64], s: &[u64; PARTS])
+    requires { Held b.old }
     ensures { b.new
         ≡ words_of (with_value (merge s.now (book_of b.old).value) (book_of b.old)) }
 {
@@ -339,8 +330,8 @@ pub fn set_logged(b: &mut [u64], n: usize)
 }
 
 // A row put among the first n rows of the words from a up to e.
-fn put_at(b: &mut [u64], a: usize, e: usize, n: usize, row: &[u64])
-    requires a_le_e { (a ≤ e) × (e ≤ length b.old) × ((n + 1) * row_long ≤ e - a) × (length row.now ≡ row_long) }
+fn put_at(b: &mut [u64], a: usize, e: usize, n: usize, row: &[u64; ROW])
+    requires a_le_e { (a ≤ e) × (e ≤ length b.old) × ((n + 1) * row_long ≤ e - a) }
     requires fresh { Fresh (record_at row.now ∷ []) (records_at n (mid a (e - a) b.old)) }
     ensures { b.new
         ≡ patch a (e - a) b.old
@@ -350,9 +341,8 @@ fn put_at(b: &mut [u64], a: usize, e: usize, n: usize, row: &[u64])
 }
 
 // A row's record put into the log.
-pub fn put_record(b: &mut [u64], row: &[u64])
+pub fn put_record(b: &mut [u64], row: &[u64; ROW])
     requires held { Held b.old }
-    requires row_len { length row.now ≡ row_long }
     requires fresh { Fresh (record_at row.now ∷ []) (book_of b.old).log }
     requires b_len_bound { length (book_of b.old).log < log_room }
     ensures { b.new
@@ -365,9 +355,15 @@ pub fn put_record(b: &mut [u64], row: &[u64])
 }
 
 // Of the first rows of the words from a up to e, those that may go dropped and the rest closed up. Gives how many stay.
-fn drop_at(b: &mut [u64], a: usize, e: usize, count: usize, s: &[u64], low: &[u64]) -> usize
-    requires a_le_e { (a ≤ e) × (e ≤ length b.old) × (count * row_long ≤ e - a) }
-    requires s_len { length s.now ≡ parts }
+fn drop_at(
+    b: &mut [u64],
+    a: usize,
+    e: usize,
+    count: usize,
+    s: &[u64; PARTS],
+    low: &[u64; PARTS],
+) -> usize
+    requires { (a ≤ e) × (e ≤ length b.old) × (count * row_long ≤ e - a) }
     ensures b_after { b.new
         ≡ patch a (e - a) b.old
         (dropped s.now low.now count (mid a (e - a) b.old)) }

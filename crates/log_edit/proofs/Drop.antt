@@ -1,12 +1,11 @@
 -- Rows dropped: one turn and the end of the pass over the rows, and of the zeros behind them. Assumes nothing.
-use Prim.Native.Nat.{ℕ, suc, ◌+◌, ◌-◌, ◌*◌, ◌≤◌, ◌<◌}
+use Prim.Native.Nat.{ℕ, ◌+◌, ◌-◌, ◌*◌, ◌≤◌, ◌<◌}
 use native.Mathlib.Omega.{arith}
 use mathlib.Core.Path.{◌≡◌, refl, sym, ap, ap₂, ◌∙◌}
 use mathlib.Core.Bool.{true, false}
 use mathlib.Core.List.{List, [], ◌∷◌, ◌++◌, append_assoc, append-nil}
-use lib.ListN.{length, take, drop, set, replicate, take-append-drop}
+use lib.ListN.{length, take, drop, replicate}
 use lib.Seq.{drop-drop}
-use Rattle.lists.specs.Scan.{stored_more}
 use Rattle.lists.specs.Part.{mid, patch, length-mid, length-patch, mid-patch, drop_past}
 use Rattle.lists.specs.Rows.{rows}
 use Rattle.stamp.specs.Stamp.{Stamp}
@@ -17,24 +16,6 @@ use Rattle.book_log.specs.Lowest.{goes_by}
 use Rattle.book_log.specs.Walk.{records_from, row_record, records-all, records-next, records-none}
 use Rattle.log_edit.specs.Merge.{stayers, dropped}
 use Rattle.log_edit.specs.RowLaws.{records_snoc, records-same, take-before, flat-records}
-
--- a row over itself
-pub patch_self : (a k : ℕ) (r : List ℕ) → patch a k r (mid a k r) ≡ r
-unfolding mid patch
-patch_self a k r = ap (λ (l : List ℕ). take a r ++ l) (take-append-drop k (drop a r)) ∙ take-append-drop a r
-
--- a zero more, and none left
-pub zeroed-more : (r z : List ℕ) (j to : ℕ) → j < length r → j < to
-    → take j r ++ (replicate (to - j) 0 ++ z) ≡ take (j + 1) (set r j 0) ++ (replicate (to - (j + 1)) 0 ++ z)
-zeroed-more r z j to h k =
-    let e : to - j ≡ suc (to - (j + 1)) = omega arith in
-    rw e (stored_more (λ _. replicate (to - (j + 1)) 0 ++ z) r j 0 h)
-
-pub zeroed-end : (r₀ r : List ℕ) (j to : ℕ) → to ≡ j → drop to r ≡ drop to r₀
-    → take j r ++ (replicate (to - j) 0 ++ drop to r₀) ≡ r
-zeroed-end r₀ r j to e d =
-    let z : to - j ≡ 0 = omega arith in
-    rw (z, ← d, e) (take-append-drop j r)
 
 -- of the rows from the i-th of n on, the records that stay
 abbrev to_come : Stamp → Stamp → ℕ → List ℕ → ℕ → List Record

@@ -1,20 +1,21 @@
 -- A row slid in: one turn and the end of the search for its place and of the shift, and what they come to. Assumes
 -- nothing.
-use Prim.Native.Nat.{ℕ, suc, ◌+◌, ◌-◌, ◌*◌, ◌≤◌, ◌<◌}
+use Prim.Native.Nat.{ℕ, ◌+◌, ◌-◌, ◌*◌, ◌≤◌, ◌<◌}
 use native.Mathlib.Omega.{arith}
-use mathlib.Core.Path.{◌≡◌, refl, sym, ap, ap₂, subst, ◌∙◌}
+use mathlib.Core.Path.{◌≡◌, sym, ap, subst, ◌∙◌}
 use mathlib.Core.Bool.{true, false}
 use mathlib.Core.List.Memᴰ
-use mathlib.Core.List.{List, [], ◌∷◌, ◌++◌}
+use mathlib.Core.List.{List, [], ◌∷◌, ◌++◌, append_assoc}
 use lib.Dec.{T}
-use lib.ListN.{length, take, drop, get_or, set, length-set}
-use lib.Seq.{get_or-take, get_or-set_same, take-take, take-set-le, drop-set-lt, drop-cons, drop-drop}
+use Rattle.std.specs.List.{copy_within}
+use lib.ListN.{length, take, drop}
+use lib.Seq.{drop-drop}
 use Rattle.lists.specs.Tests.{every}
 use Rattle.lists.specs.TestLaws.{◌∈◌, either, here, none_in, is_true, is_false, not-from, every-at}
 use Rattle.lists.specs.Order.{key_before, rising}
 use Rattle.lists.proofs.Sorted.{before_trans}
 use Rattle.lists.proofs.Neighbours.{rising-front}
-use Rattle.lists.specs.Part.{mid, patch, length-patch, drop-patch}
+use Rattle.lists.specs.Part.{mid, patch, length-mid, length-patch, drop-patch}
 use Rattle.lists.specs.Rows.{rows}
 use Rattle.ledger.specs.Record.{Record, place}
 use Rattle.book_log.specs.Region.{row_long, record_at, records_at}
@@ -81,61 +82,33 @@ module _ {row r : List ℕ} {i n : ℕ} (b : Behind row r i n) where
       (subst (λ (l : List Record). T (rising place l)) s o') t
       z (subst (λ (l : List Record). z ∈ l) s m))
 
-  pub behind-all : n ≡ 0 → Parted i row r n
+  pub behind-all : n ≡ 0 → Parted i row r 0
   unfolding records_at rows
-  behind-all e = parts (λ z m. none_in (subst (λ (l : List Record). z ∈ l) (ap (λ (k : ℕ). records_at k r) e) m))
+  behind-all e =
+      subst (Parted i row r) e
+      (parts (λ z m. none_in (subst (λ (l : List Record). z ∈ l) (ap (λ (k : ℕ). records_at k r) e) m)))
 
--- the shift, from the back: the words from the j-th on are moved
-pub record Shifting (from to by : ℕ) (r₀ r : List ℕ) (j : ℕ) : Type 0 where
-  pub low : from ≤ j
-  pub high : j ≤ to
-  pub done : Shifted j to by r₀ r
+-- words copied to another place of their slice are put there as a part, and the shift is one such copy
+pub copied : (r : List ℕ) (i j d : ℕ) → copy_within r i j d ≡ patch d (j - i) r (mid i (j - i) r)
+unfolding patch mid
+copied r i j d =
+    append_assoc (take d r) (take (j - i) (drop i r)) (drop (d + (j - i)) r)
+    ∙ rw (← drop-drop (j - i) d r)
 
-pub shift_start : (from to by : ℕ) (r : List ℕ) → from ≤ to → Shifting from to by r r to
-unfolding mid
-shift_start from to by r h =
-    let e : to - to ≡ 0 = omega arith in
-    record { low = h; high = omega arith; done = record { long = refl; below = refl; above = rw e } }
-
-module _ {from to by : ℕ} {r₀ r : List ℕ} {j : ℕ} (s : Shifting from to by r₀ r j) (fits : to + by ≤ length r₀) where
-  pub shift-more : (k : ℕ) → j ≡ suc k → from ≤ k → Shifting from to by r₀ (set r (k + by) (get_or r k 0)) k
-  unfolding mid
-  shift-more k e h =
-      let high = s.high in
-      let long = s.done.long in
-      let n : to - k ≡ suc (to - j) = omega arith in
-      let g : k < length r₀ = omega arith in
-      record {
-        low = h;
-        high = omega arith;
-        done = record {
-          long = length-set r (k + by) (get_or r k 0) ∙ long;
-          below = take-set-le k r (k + by) (get_or r k 0) (omega arith) ∙ under;
-          above = moved ∙ ap₂ ◌∷◌ word s.done.above ∙ rw (n, drop-cons r₀ k 0 g, e);
-        };
-      }
-    where
-      under : take k r ≡ take k r₀
-      under =
-          let l : k ≤ j = omega arith in
-          sym (take-take k j r l) ∙ ap (take k) s.done.below ∙ take-take k j r₀ l
-
-      word : get_or r k 0 ≡ get_or r₀ k 0
-      word =
-          let l : k < j = omega arith in
-          sym (get_or-take j r k 0 l) ∙ ap (λ (l : List ℕ). get_or l k 0) s.done.below ∙ get_or-take j r₀ k 0 l
-
-      moved : drop (k + by) (set r (k + by) (get_or r k 0)) ≡ get_or r k 0 ∷ drop (j + by) r
-      moved =
-          let l : k + by < length r = omega (arith, s.high, s.done.long) in
-          let l' : k + by < length (set r (k + by) (get_or r k 0)) = simp length-set l in
-          let m : j + by ≡ suc (k + by) = omega arith in
-          drop-cons (set r (k + by) (get_or r k 0)) (k + by) 0 l'
-          ∙ ap₂ ◌∷◌ (get_or-set_same r (k + by) (get_or r k 0) 0 l)
-          (drop-set-lt (suc (k + by)) r (k + by) (get_or r k 0) (omega arith) ∙ rw m)
-
-  pub shift-end : j ≡ from → Shifted from to by r₀ r
-  shift-end e = subst (λ (i : ℕ). Shifted i to by r₀ r) e s.done
+pub shifted : (from to by : ℕ) (r new : List ℕ) → from ≤ to → to + by ≤ length r
+    → new ≡ copy_within r from to (from + by) → Shifted from to by r new
+shifted from to by r new h fits e =
+    let k = to - from in
+    let at : from + by + k ≡ to + by = omega arith in
+    let room : from + by + k ≤ length r = omega arith in
+    let wide : length (mid from k r) ≡ k = length-mid from k r (omega arith) in
+    let put : new ≡ patch (from + by) k r (mid from k r) = e ∙ copied r from to (from + by) in
+    record {
+      long = rw put (length-patch (from + by) k r (mid from k r) room wide);
+      below = rw put (take-before (from + by) k r (mid from k r) from room wide (omega arith));
+      above = rw put (drop-patch (from + by) k r (mid from k r) room wide
+          ∙ ap (λ (l : List ℕ). mid from k r ++ l) (drop-drop k (from + by) r ∙ rw at));
+    }
 
 -- the search, the shift and the row put in its place
 pub slid :

@@ -15,18 +15,20 @@ use Rattle.wire.specs.Kinds.{head_kind, record_kind, head_long, record_long}
 use Rattle.wire.proofs.Laws.{length-readable, lawful-head}
 use Rattle.wire.specs.Read.{readable, read_as}
 use Rattle.wire.proofs.ReadLaws.{told}
-use Rattle.wire.specs.declared.Said.TheVariants as said
+use Rattle.wire.specs.declared.Refusal.TheVariants.{Bad}
+use Rattle.wire.specs.Says as said
+use Rattle.std.specs.Prelude.{Ok, Err}
 use Rattle.wire.specs.Head.{head_line, count_in}
 use Rattle.message.specs.Message.{parts_of, in_order, well_formed, read_gossip}
 use Rattle.message.specs.Parts.{head-rules}
 use Rattle.message.specs.Told.{head_in, head-count}
 
-pub headless : (bytes : List ℕ) → readable head_kind (take head_long bytes) ≡ false → said.Unreadable 1
+pub headless : (bytes : List ℕ) → readable head_kind (take head_long bytes) ≡ false → Err Bad
     ≡ read_gossip bytes
 unfolding read_gossip well_formed
 headless bytes e = rw e
 
-pub too_short : (bytes : List ℕ) → length bytes < head_long → said.Unreadable 1 ≡ read_gossip bytes
+pub too_short : (bytes : List ℕ) → length bytes < head_long → Err Bad ≡ read_gossip bytes
 unfolding head_kind
 too_short bytes h =
     headless bytes (is_false (readable head_kind (take head_long bytes))
@@ -34,20 +36,20 @@ too_short bytes h =
     (λ r. omega (arith, length-readable head_kind lawful-head (take head_long bytes) r, length-take head_long bytes))))
 
 module _ (bytes : List ℕ) (sender screens count : ℕ) (stamp : Parts)
-    (read : said.Head sender screens count stamp ≡ read_as head_kind (take head_long bytes)) where
+    (read : Ok (said.Head sender screens count stamp) ≡ read_as head_kind (take head_long bytes)) where
   has-head : readable head_kind (take head_long bytes) ≡ true
   has-head = is_true (readable head_kind (take head_long bytes))
-      (told head_kind (take head_long bytes) (said.Head sender screens count stamp) read (omega arith)).0
+      (told head_kind (take head_long bytes) (said.Head sender screens count stamp) read).0
 
   -- no more records than a log holds
   pub few : count ≤ log_room
   unfolding head_line
   few =
-      let t = told head_kind (take head_long bytes) (said.Head sender screens count stamp) read (omega arith) in
+      let t = told head_kind (take head_long bytes) (said.Head sender screens count stamp) read in
       let kept = leb→le (count_in bytes) log_room (head-rules (take head_long bytes) t.0).1 in
       omega (arith, kept, head-count bytes sender screens count stamp read)
 
-  pub wrong-long : (length bytes ≡ head_long + count * record_long → ⊥) → said.Unreadable 1 ≡ read_gossip bytes
+  pub wrong-long : (length bytes ≡ head_long + count * record_long → ⊥) → Err Bad ≡ read_gossip bytes
   unfolding read_gossip well_formed
   wrong-long n = rw (
     has-head,
@@ -57,7 +59,7 @@ module _ (bytes : List ℕ) (sender screens count : ℕ) (stamp : Parts)
 
   module _ (long : length bytes ≡ head_long + count * record_long) where
     pub disorder : in_order (record_kind screens (list_of stamp)) (parts_of count bytes) ≡ false
-        → said.Unreadable 1 ≡ read_gossip bytes
+        → Err Bad ≡ read_gossip bytes
     unfolding read_gossip well_formed parts_at list_of
     disorder e = rw (
       has-head,
@@ -67,7 +69,7 @@ module _ (bytes : List ℕ) (sender screens count : ℕ) (stamp : Parts)
     )
 
     pub whole : in_order (record_kind screens (list_of stamp)) (parts_of count bytes) ≡ true
-        → said.Head sender screens count stamp ≡ read_gossip bytes
+        → Ok (said.Head sender screens count stamp) ≡ read_gossip bytes
     unfolding read_gossip well_formed parts_at list_of head_kind
     whole e = rw (
       has-head,

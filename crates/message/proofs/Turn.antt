@@ -2,31 +2,38 @@
 use Prim.Native.Nat.{ℕ, zero, suc, ◌+◌, ◌≤◌, ◌<◌}
 use native.Mathlib.Omega.{arith}
 use mathlib.Core.Path.{◌≡◌, refl, sym, ap, subst, ◌∙◌}
-use mathlib.Core.Logic.{◌≢◌}
-use mathlib.Core.Bool.{Bool, true, false, ◌&&◌, cond, and_assoc}
+use mathlib.Core.Bool.{Bool, true, false, ◌&&◌, and_assoc}
 use mathlib.Core.List.{List, [], ◌∷◌, map}
 use lib.Dec.{T, ltb}
 use lib.ListN.{length, drop, drop_of_length-le}
+use lib.Seq.{take_all}
 use borrow.Author.Tests.{lt-ltb}
 use Rattle.lists.specs.TestLaws.{is_true}
 use Rattle.lists.proofs.ElementLaws.{regroup}
 use Rattle.lists.proofs.Neighbours.{rising-next}
 use Rattle.lists.specs.Order.{key_before, rising}
-use Rattle.lists.specs.Tests.{every, keep}
+use Rattle.lists.specs.Tests.{every}
 use Rattle.stamp.specs.Stamp.{Stamp}
 use Rattle.stamp.specs.declared.Parts.{Parts}
 use Rattle.tally.specs.declared.Tap.{Tap}
 use Rattle.tally.specs.Body.{body_fits}
 use Rattle.ledger.specs.Record.{Record, place}
 use Rattle.ledger.proofs.RecordLaws.{obeys}
-use Rattle.wire.specs.Kinds.{Kind, record_kind}
+use Rattle.wire.specs.Kinds.{Kind, record_kind, head_long, record_long}
 use Rattle.wire.proofs.Laws.{lawful_record}
-use Rattle.wire.specs.Read.{line_of, readable, read_as}
-use Rattle.wire.proofs.ReadLaws.{told, told_line, untold}
-use Rattle.wire.specs.declared.Said.{Said}
-use Rattle.wire.specs.declared.Said.TheVariants as said
+use Rattle.wire.specs.Read.{readable, read_as}
+use Rattle.wire.proofs.ReadLaws.{told, told_line, unread}
+use Rattle.std.specs.Prelude.{Ok, Err}
+use Rattle.wire.specs.declared.Refusal.{Refusal}
+use Rattle.wire.specs.Says.{Said}
+use Rattle.wire.specs.Says as said
 use Rattle.message.specs.Message.{parts_of, record_from, in_order}
 use Rattle.message.specs.Find.{part_at, origin_of, below}
+use Rattle.std.specs.Prelude.{◌/◌, ◌*◌, ◌-◌, take, get_or, nat_lt, count_by}
+use Rattle.std.specs.Simd.{first_chunks}
+use Rattle.std.proofs.lemmas.List.Sums.{length-filter, count_by-le-length}
+use Rattle.std.proofs.Common.{length-drop}
+use Rattle.lists.specs.Rows.{rows}
 use Rattle.message.specs.Parts.{length-parts, next-part, part-rules}
 
 -- the parts that are left keep their rules and rise from the last place on
@@ -89,22 +96,20 @@ module _ (n : ℕ) (m : Stamp) (count : ℕ) (bytes : List ℕ) (i : ℕ) (h : i
   unfolding rises_from left
   step = rw (next-part count bytes i h)
 
-  pub pass_unread : (v : Said) → v ≡ read_as (record_kind n m) (part_at i bytes)
-      → v ≢ (record_kind n m).said (line_of (record_kind n m) (part_at i bytes))
+  pub pass_unread : (r : Refusal) → Err r ≡ read_as (record_kind n m) (part_at i bytes)
       → rises_from (record_kind n m) last (drop i (parts_of count bytes)) ≡ false
   unfolding left
-  pass_unread v read other = step ∙ rw (untold (record_kind n m) (part_at i bytes) v read other)
+  pass_unread r read = step ∙ rw ((unread (record_kind n m) (part_at i bytes) r read).0)
 
-  module _ (o q : ℕ) (l : Parts) (t : Tap) (read : said.Record o q l t ≡ read_as (record_kind n m) (part_at i bytes))
-    where
+  module _ (o q : ℕ) (l : Parts) (t : Tap)
+      (read : Ok (said.Record o q l t) ≡ read_as (record_kind n m) (part_at i bytes)) where
       known : readable (record_kind n m) (part_at i bytes) ≡ true
       known = is_true (readable (record_kind n m) (part_at i bytes))
-          (told (record_kind n m) (part_at i bytes) (said.Record o q l t) read (omega arith)).0
+          (told (record_kind n m) (part_at i bytes) (said.Record o q l t) read).0
 
       stands : place (record_from (record_kind n m) (part_at i bytes)) ≡ o ∷ q ∷ []
       unfolding record_from
-      stands = rw (told_line (record_kind n m) (part_at i bytes) (said.Record o q l t) read (lawful_record n m)
-          (omega arith))
+      stands = rw (told_line (record_kind n m) (part_at i bytes) (said.Record o q l t) read (lawful_record n m))
 
       pub pass_falls : key_before last (o ∷ q ∷ []) ≡ false
           → rises_from (record_kind n m) last (drop i (parts_of count bytes)) ≡ false
@@ -123,24 +128,33 @@ unfolding rises_from
 pass-end k n bytes i last h =
     let e : length (parts_of n bytes) ≤ i = rw (length-parts n bytes) h in rw (drop_of_length-le (parts_of n bytes) e)
 
--- the count of lower origins, one record at a time
-below_cons : (o : ℕ) (p : List ℕ) (ps : List (List ℕ)) → below o (p ∷ ps) ≡ below o (p ∷ []) + below o ps
+-- the records as arrays are the parts
+taken_chunks : (w k n : ℕ) (l : List ℕ) → k ≤ n → take k (first_chunks w n l) ≡ rows w k l
+unfolding rows
+taken_chunks w zero n l h = refl
+taken_chunks w (suc k) zero l h = absurd (omega arith)
+taken_chunks w (suc k) (suc n) l h = ap (λ (rs : List (List ℕ)). take w l ∷ rs)
+    (taken_chunks w k n (drop w l) (omega arith))
+
+pub lower_below : (o count : ℕ) (bytes : List ℕ) → head_long + count * record_long ≤ length bytes
+    → count_by (λ p. nat_lt (get_or p 1 0) o) (take count (first_chunks record_long
+    (length (take (length bytes - head_long) (drop head_long bytes)) / record_long)
+    (take (length bytes - head_long) (drop head_long bytes))))
+    ≡ below o (parts_of count bytes)
+unfolding below origin_of parts_of
+lower_below o count bytes h =
+    let rest = drop head_long bytes in
+    let all : take (length bytes - head_long) rest ≡ rest = take_all (length bytes - head_long) rest
+    (omega (arith, length-drop head_long bytes)) in
+    let enough : count ≤ length rest / record_long = omega (arith, length-drop head_long bytes) in
+    rw (all, taken_chunks record_long count (length rest / record_long) rest enough)
+    (sym (length-filter (λ p. nat_lt (get_or p 1 0) o) (rows record_long count rest)))
+
+pub below-count : (o count : ℕ) (bytes : List ℕ) → below o (parts_of count bytes) ≤ count
 unfolding below
-below_cons o p ps = go (ltb (origin_of p) o)
-  where
-    go : (b : Bool) → length (cond b (p ∷ keep (λ x. ltb (origin_of x) o) ps) (keep (λ x. ltb (origin_of x) o) ps))
-        ≡ length (cond b (p ∷ []) []) + length (keep (λ x. ltb (origin_of x) o) ps)
-    go true = omega arith
-    go false = omega arith
-
-module _ (count : ℕ) (bytes : List ℕ) (o i found : ℕ) where
-  pub below_more : i < count
-      → found + below o (drop i (parts_of count bytes)) ≡ found + below o (part_at i bytes ∷ [])
-      + below o (drop (i + 1) (parts_of count bytes))
-  below_more h = rw (next-part count bytes i h)
-      (omega (arith, below_cons o (part_at i bytes) (drop (i + 1) (parts_of count bytes))))
-
-  pub below_end : count ≤ i → found + below o (drop i (parts_of count bytes)) ≡ found
-  unfolding below
-  below_end h = let e : length (parts_of count bytes) ≤ i = rw (length-parts count bytes) h in
-      rw (drop_of_length-le (parts_of count bytes) e) (omega arith)
+below-count o count bytes = omega (
+  arith,
+  length-filter (λ p. ltb (origin_of p) o) (parts_of count bytes),
+  count_by-le-length (λ p. ltb (origin_of p) o) (parts_of count bytes),
+  length-parts count bytes,
+)

@@ -1,6 +1,7 @@
 -- A gossip message as bytes: a head, then exactly count records, strictly rising by origin, then number. Assumes
 -- nothing.
 use Rattle.std.specs.Prelude.{ℕ, ◌+◌, ◌*◌, Bool, ◌&&◌, cond, List, ◌∷◌, ◌++◌, map, eqb, length, take, drop}
+use Rattle.std.specs.Prelude.{Result, Ok, Err}
 use Rattle.lists.specs.Order.{rising}
 use Rattle.lists.specs.Rows.{rows, flat}
 use Rattle.lists.specs.Tests.{every}
@@ -14,8 +15,9 @@ use Rattle.wire.specs.Head.{head_line, sender_in, screens_in, count_in, stamp_in
 use Rattle.wire.specs.Kinds.{Kind, head_kind, record_kind, record_in, tap_at, head_long, record_long}
 use Rattle.wire.specs.Read.{line_of, readable}
 use Rattle.wire.specs.Write.{written}
-use Rattle.wire.specs.declared.Said.{Said}
-use Rattle.wire.specs.declared.Said.TheVariants as said
+use Rattle.wire.specs.declared.Refusal.{Refusal}
+use Rattle.wire.specs.declared.Refusal.TheVariants.{Bad}
+use Rattle.wire.specs.Says.{Said}
 
 -- each record is a part of the message from its own first byte; there are count of them
 unfoldable pub parts_of : ℕ → List ℕ → List (List ℕ)
@@ -55,8 +57,8 @@ well_formed bytes =
     && in_order (records_kind bytes) (record_parts bytes))
 
 -- what a reader answers: the head, or refusal 1
-unfoldable pub read_gossip : List ℕ → Said
-read_gossip bytes = cond (well_formed bytes) (head_kind.said (head_line bytes)) (said.Unreadable 1)
+unfoldable pub read_gossip : List ℕ → Result Said Refusal
+read_gossip bytes = cond (well_formed bytes) (Ok (head_kind.said (head_line bytes))) (Err Bad)
 
 -- the one writing of a message: the lines of its head and of each record
 unfoldable pub head_of : Message → List ℕ

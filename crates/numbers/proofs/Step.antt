@@ -47,14 +47,8 @@ same_test a b c d f g = on (ltb a b) refl
     on true e = sym (lt-ltb c d (f (ltb-true a b e)))
     on false e = sym (le-ltb c d (g (ltb-false a b e)))
 
-pub width-more : (m i : ℕ) → 0 < i → ltb m (256 ^ i) ≡ ltb (m / 256) (256 ^ (i - 1))
-width-more m zero h = absurd (omega arith)
-width-more m (suc i) h =
-    let e : suc i - 1 ≡ i = omega arith in
-    rw (e, pow-suc 256 i) (same_test m (256 ^ i * 256) (m / 256) (256 ^ i) (λ l. omega arith) (λ l. omega arith))
-
-pub width-none : (m : ℕ) → 0 < m → ltb m (256 ^ 0) ≡ false
-width-none m h = le-ltb m 1 h
-
-pub width-end : (i : ℕ) → ltb 0 (256 ^ i) ≡ true
-width-end i = lt-ltb 0 (256 ^ i) (omega (arith, pow-le-pow_right {n = 256} (lit< tt) {i = 0} {j = i} (omega arith)))
+pub width-more : (m i w : ℕ) → i < w → ltb m (256 ^ (w - i)) ≡ ltb (m / 256) (256 ^ (w - (i + 1)))
+width-more m i w h =
+    let k = w - (i + 1) in
+    let e : w - i ≡ suc k = omega arith in
+    rw (e, pow-suc 256 k) (same_test m (256 ^ k * 256) (m / 256) (256 ^ k) (λ l. omega arith) (λ l. omega arith))

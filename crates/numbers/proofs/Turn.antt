@@ -1,14 +1,15 @@
 -- One turn of the loops over a row of fields, on the lists. Assumes nothing.
 use Prim.Native.Nat.{ℕ, suc, ◌+◌, ◌≤◌, ◌<◌, ◌^◌}
 use native.Mathlib.Omega.{arith}
-use mathlib.Core.Path.{◌≡◌, refl, ap, subst}
-use mathlib.Core.Bool.{true, false, ◌&&◌, and-false}
+use mathlib.Core.Path.{◌≡◌, refl, ap}
+use mathlib.Core.Bool.{Bool, false, ◌&&◌, and-false}
 use mathlib.Core.List.{List, [], ◌∷◌, ◌++◌, append_assoc, append-nil}
 use lib.Dec.{T, leb, ltb, leb→le}
 use lib.ListN.{length, take, drop, get_or, set, drop_of_length-le, take-append-drop}
 use lib.Seq.{take_all, drop-drop}
+use Rattle.std.specs.List.{list_all, zip}
 use Rattle.lists.specs.Tests.{every}
-use Rattle.lists.specs.TestLaws.{and_l, and_r}
+use Rattle.lists.specs.TestLaws.{every-get_or}
 use Rattle.lists.specs.Scan.{rest, stored_more}
 use Rattle.lists.specs.Part.{mid, patch, take-patch, drop_past}
 use Rattle.stamp.specs.Stamp.{total}
@@ -16,23 +17,12 @@ use Rattle.numbers.specs.Number.{number_of, bytes_of}
 use Rattle.numbers.specs.NumberLaws.{length-bytes}
 use Rattle.numbers.specs.Fields.{read_fields, write_fields, fields_fit, put_fields}
 
--- widths of at most 8 bytes
-abbrev pub Narrow : List ℕ → Type 0
-Narrow ws = T (every (λ w. leb w 8) ws)
-
 module _ (ws : List ℕ) (i : ℕ) (h : i < length ws) where
   pub total-rest : total (drop i ws) ≡ get_or ws i 0 + total (drop (i + 1) ws)
   total-rest = ap total (rest ws i h)
 
-  narrow_rest : Narrow (drop i ws) → T (leb (get_or ws i 0) 8 && every (λ w. leb w 8) (drop (i + 1) ws))
-  narrow_rest t = subst Narrow (rest ws i h) t
-
-  pub narrow-this : Narrow (drop i ws) → get_or ws i 0 ≤ 8
-  narrow-this t = leb→le (get_or ws i 0) 8
-      (and_l (leb (get_or ws i 0) 8) (every (λ w. leb w 8) (drop (i + 1) ws)) (narrow_rest t))
-
-  pub narrow_next : Narrow (drop i ws) → Narrow (drop (i + 1) ws)
-  narrow_next t = and_r (leb (get_or ws i 0) 8) (every (λ w. leb w 8) (drop (i + 1) ws)) (narrow_rest t)
+  pub narrow : T (every (λ w. leb w 8) ws) → get_or ws i 0 ≤ 8
+  narrow t = leb→le (get_or ws i 0) 8 (every-get_or (λ w. leb w 8) ws 0 t i h)
 
   pub read_more :
       (v bytes : List ℕ) (at x : ℕ) → i < length v → x ≡ number_of (mid at (get_or ws i 0) bytes)
@@ -75,11 +65,6 @@ module _ (ws : List ℕ) (i : ℕ) (h : i < length ws) where
             drop-drop (get_or ws i 0) at out,
           )
 
-  pub fit-more : (v : List ℕ) → i < length v
-      → fields_fit (drop i ws) (drop i v)
-      ≡ (ltb (get_or v i 0) (256 ^ get_or ws i 0) && fields_fit (drop (i + 1) ws) (drop (i + 1) v))
-  fit-more v k = rw (rest ws i h, rest v i k)
-
 pub read-end : (ws v bytes : List ℕ) (i at : ℕ) → length ws ≤ i → length v ≡ length ws
     → take i v ++ read_fields (drop i ws) (drop at bytes) ≡ v
 read-end ws v bytes i at h e = rw (drop_of_length-le ws h, take_all i v (omega arith)) (append-nil v)
@@ -89,12 +74,17 @@ pub put-end : (ws v out : List ℕ) (i at : ℕ) → length ws ≤ i
 unfolding put_fields
 put-end ws v out i at h = rw (drop_of_length-le ws h) (take-append-drop at out)
 
-pub fit-end : (ws v : List ℕ) (i : ℕ) → length ws ≤ i → length ws ≡ length v → fields_fit (drop i ws) (drop i v) ≡ true
-fit-end ws v i h e = let k : length v ≤ i = omega arith in rw (drop_of_length-le ws h, drop_of_length-le v k)
+-- each number fits beside its width
+pub fit_zip : (ws v : List ℕ) → length ws ≡ length v
+    → list_all (λ (p : ℕ × ℕ). ltb p.1 (256 ^ p.0)) (zip ws v) ≡ fields_fit ws v
+fit_zip [] [] e = refl
+fit_zip [] (n ∷ v) e = absurd (omega arith)
+fit_zip (w ∷ ws) [] e = absurd (omega arith)
+fit_zip (w ∷ ws) (n ∷ v) e = ap (λ (b : Bool). ltb n (256 ^ w) && b) (fit_zip ws v (omega arith))
 
 -- a row of another length does not fit
-pub fit-short : (ws v : List ℕ) → (length ws ≡ length v → ⊥) → fields_fit ws v ≡ false
-fit-short [] [] n = absurd (n refl)
-fit-short [] (x ∷ v) n = refl
-fit-short (w ∷ ws) [] n = refl
-fit-short (w ∷ ws) (x ∷ v) n = rw (fit-short ws v (λ e. n (ap suc e))) (and-false (ltb x (256 ^ w)))
+pub fit_short : (ws v : List ℕ) → (length ws ≡ length v → ⊥) → fields_fit ws v ≡ false
+fit_short [] [] n = absurd (n refl)
+fit_short [] (x ∷ v) n = refl
+fit_short (w ∷ ws) [] n = refl
+fit_short (w ∷ ws) (x ∷ v) n = rw (fit_short ws v (λ e. n (ap suc e))) (and-false (ltb x (256 ^ w)))

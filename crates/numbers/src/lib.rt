@@ -12,22 +12,14 @@ ghost use Rattle.numbers.specs.Fields.{read_fields, fields_fit, put_fields};
 // How many values a byte has.
 const BASE: u64 = 256;
 
-pub fn wide(x: u8) -> u64
-    ensures { result ≡ x }
-{
-    x as u64
-}
-
 // The number that the whole slice holds.
 fn number_of(s: &[u8]) -> u64
     requires { length s.now ≤ 8 }
     ensures { (result ≡ number_of s.now) × (result < 256 ^ length s.now) }
 {
     let mut n: u64 = 0;
-    let mut i = 0;
-    while i < s.len() {
-        n = n * BASE + wide(s[i]);
-        i += 1;
+    for x in s {
+        n = n * BASE + u64::from(*x);
     }
     n
 }
@@ -37,8 +29,7 @@ pub fn number_at(s: &[u8], at: usize, w: usize) -> u64
     requires { (at + w ≤ length s.now) × (w ≤ 8) }
     ensures { (result ≡ number_of (mid at w s.now)) × (result < 256 ^ w) }
 {
-    let e = at + w;
-    number_of(&s[at..e])
+    number_of(&s[at..at + w])
 }
 
 // The last bytes of n over the whole slice.
@@ -46,9 +37,7 @@ fn put_number(s: &mut [u8], n: u64)
     ensures { s.new ≡ bytes_of (length s.old) n }
 {
     let mut m = n;
-    let mut i = s.len();
-    while 0 < i {
-        i -= 1;
+    for i in (0..s.len()).rev() {
         s[i] = (m % BASE) as u8;
         m /= BASE;
     }
@@ -59,8 +48,7 @@ pub fn put_number_at(s: &mut [u8], at: usize, w: usize, n: u64)
     requires { at + w ≤ length s.old }
     ensures { s.new ≡ patch at w s.old (bytes_of w n) }
 {
-    let e = at + w;
-    put_number(&mut s[at..e], n);
+    put_number(&mut s[at..at + w], n);
 }
 
 // Whether w bytes hold n: so many divisions leave nothing.
@@ -68,15 +56,10 @@ pub fn fits_width(n: u64, w: usize) -> bool
     ensures { result ≡ ltb n (256 ^ w) }
 {
     let mut m = n;
-    let mut i = w;
-    while m != 0 {
-        if i == 0 {
-            return false;
-        }
+    for _ in 0..w {
         m /= BASE;
-        i -= 1;
     }
-    true
+    m == 0
 }
 
 // The numbers that the bytes hold, over the whole of v.
@@ -86,13 +69,10 @@ pub fn read_fields(v: &mut [u64], ws: &[usize], bytes: &[u8])
     requires t { T (every (λ w. leb w 8) ws.now) }
     ensures { v.new ≡ read_fields ws.now bytes.now }
 {
-    let mut i = 0;
     let mut at = 0;
-    while i < ws.len() {
-        let w = ws[i];
+    for (i, &w) in ws.iter().enumerate() {
         v[i] = number_at(bytes, at, w);
         at += w;
-        i += 1;
     }
 }
 
@@ -102,29 +82,17 @@ pub fn put_fields(out: &mut [u8], ws: &[usize], v: &[u64])
     requires ws_in_bounds { total ws.now ≤ length out.old }
     ensures { out.new ≡ put_fields ws.now v.now out.old }
 {
-    let mut i = 0;
     let mut at = 0;
-    while i < ws.len() {
-        let w = ws[i];
+    for (i, &w) in ws.iter().enumerate() {
         put_number_at(out, at, w, v[i]);
         at += w;
-        i += 1;
     }
 }
 
 // Whether there is a number for each width, and each fits.
+#[tactic(auto, using(crate::proofs::Turn::fit_short))]
 pub fn fields_fit(ws: &[usize], v: &[u64]) -> bool
     ensures { result ≡ fields_fit ws.now v.now }
 {
-    if ws.len() != v.len() {
-        return false;
-    }
-    let mut i = 0;
-    while i < ws.len() {
-        if !fits_width(v[i], ws[i]) {
-            return false;
-        }
-        i += 1;
-    }
-    true
+    ws.len() == v.len() && ws.iter().zip(v).all(|(w, n)| fits_width(*n, *w))
 }

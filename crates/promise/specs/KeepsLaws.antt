@@ -1,6 +1,6 @@
 -- Laws: a request that is stopped answers by its stop and changes neither book nor output, and one that is not is done.
 -- Assumes nothing.
-use Rattle.std.specs.Prelude.{ℕ, ◌≡◌, refl, Bool, true, false, not, cond, List, ◌++◌, eqb, ltb, length, drop}
+use Rattle.std.specs.Prelude.{ℕ, ◌≡◌, refl, Bool, true, false, not, cond, List, ◌++◌, eqb, ltb, length, drop, Ok, Err}
 use Rattle.std.proofs.Common.{arith, sym, ap, ◌∙◌}
 use Rattle.std.proofs.Math.Path.{Path, subst}
 use Rattle.std.proofs.Math.Option.{Option, none, some, some-injective, some-ne-none, none-ne-some}
@@ -10,7 +10,8 @@ use Rattle.lists.specs.Tests.{first_of}
 use Rattle.wire.specs.Kinds.{question_kind}
 use Rattle.wire.specs.Read.{readable}
 use Rattle.wire.specs.Write.{Output, refuse}
-use Rattle.wire.specs.declared.Written.TheVariants.{Wrote, Refused}
+use Rattle.wire.specs.declared.Refusal.{Refusal}
+use Rattle.wire.specs.declared.Refusal.TheVariants.{Unsound, Short}
 use Rattle.message.specs.Message.{message_bytes}
 use Rattle.meaning.proofs.AnswerLaws.{ask-keeps}
 use Rattle.meaning.specs.Book.{fresh}
@@ -151,7 +152,7 @@ open-keeps ws i n r e = go (first_of (open_stops (eqb (length ws) book_long) i n
     go none e = absurd (none-ne-some r e)
 
 -- a send that is refused changes no byte of the output; the book is only read
-pub send-keeps : (ws out : List ℕ) (k : ℕ) → (send_on ws out).answer ≡ Refused k → (send_on ws out).bytes ≡ out
+pub send-keeps : (ws out : List ℕ) (k : Refusal) → (send_on ws out).answer ≡ Err k → (send_on ws out).bytes ≡ out
 unfolding send_on
 send-keeps ws out k e = go (lawful ws) (ltb (length out) (length message)) e
   where
@@ -159,11 +160,11 @@ send-keeps ws out k e = go (lawful ws) (ltb (length out) (length message)) e
     message = message_bytes (send (book_of ws))
 
     wrote : Output
-    wrote = record { answer = Wrote (length message); bytes = message ++ drop (length message) out }
+    wrote = record { answer = Ok (length message); bytes = message ++ drop (length message) out }
 
     go :
-        (l short : Bool) → (cond l (cond short (refuse 12 out) wrote) (refuse 11 out)).answer ≡ Refused k
-        → (cond l (cond short (refuse 12 out) wrote) (refuse 11 out)).bytes ≡ out
+        (l short : Bool) → (cond l (cond short (refuse Short out) wrote) (refuse Unsound out)).answer ≡ Err k
+        → (cond l (cond short (refuse Short out) wrote) (refuse Unsound out)).bytes ≡ out
     go false short e = refl
     go true true e = refl
     go true false e = let z : ◌≡◌ {A = ℕ} 0 1 = cc in absurd (omega arith)

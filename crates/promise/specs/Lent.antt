@@ -1,13 +1,13 @@
 -- What each operation answers and leaves, and what stops it, of a lent slice of words and the bytes of a message.
 -- Assumes nothing.
-use Rattle.std.specs.Prelude.{ℕ, ◌≡◌, Bool, cond, List, ◌++◌, eqb, ltb, length, get_or, drop}
+use Rattle.std.specs.Prelude.{ℕ, ◌≡◌, Bool, cond, List, ◌++◌, eqb, ltb, length, get_or, drop, Ok}
 use Rattle.std.proofs.Math.Option.{Option, none, some}
 use Rattle.lists.specs.Tests.{first_of}
 use Rattle.stamp.specs.Stamp.{Stamp}
 use Rattle.wire.specs.Kinds.{tap_kind, question_kind, tap_at, stamp_at}
 use Rattle.wire.specs.Read.{line_of, readable}
 use Rattle.wire.specs.Write.{Output, refuse}
-use Rattle.wire.specs.declared.Written.TheVariants.{Wrote}
+use Rattle.wire.specs.declared.Refusal.TheVariants.{Unsound, Short}
 use Rattle.message.specs.Message.{well_formed, message_of, message_bytes}
 use Rattle.meaning.specs.Book.{Book, fresh}
 use Rattle.meaning.specs.Reply.{Reply, refusal}
@@ -93,11 +93,11 @@ label_in ws bytes = stamp_at 2 (line_of (question_kind (book_of ws).screens) byt
 
 -- send: 11, then 12; the message at the front of the output, the rest of which stays; the book does not change
 abbrev pub put_front : List ℕ → List ℕ → Output
-put_front bytes out = cond (ltb (length out) (length bytes)) (refuse 12 out)
-    (record { answer = Wrote (length bytes); bytes = bytes ++ drop (length bytes) out })
+put_front bytes out = cond (ltb (length out) (length bytes)) (refuse Short out)
+    (record { answer = Ok (length bytes); bytes = bytes ++ drop (length bytes) out })
 
 unfoldable pub send_on : List ℕ → List ℕ → Output
-send_on ws out = cond (lawful ws) (put_front (message_bytes (send (book_of ws))) out) (refuse 11 out)
+send_on ws out = cond (lawful ws) (put_front (message_bytes (send (book_of ws))) out) (refuse Unsound out)
 
 -- open: 11 by the length only, then 2; else the fresh book
 pub record Opened : Type 0 where

@@ -1,6 +1,6 @@
 -- Laws: on the words of a sound book an operation is the step of that book; send answers by its list of stops; a
 -- promise has one outcome. Assumes nothing.
-use Rattle.std.specs.Prelude.{ℕ, ◌≡◌, refl, Bool, true, false, not, List, [], ◌∷◌, ◌++◌, ltb, length, get_or, drop}
+use Rattle.std.specs.Prelude.{ℕ, ◌≡◌, refl, Bool, true, false, not, List, [], ◌∷◌, ◌++◌, ltb, length, get_or, drop, Ok}
 use Rattle.std.proofs.Common.{sym, ◌∙◌}
 use Rattle.std.proofs.Math.Path.{ap}
 use Rattle.std.proofs.Math.Bool.{cond}
@@ -9,8 +9,10 @@ use Rattle.lists.specs.TestLaws.{is_true}
 use Rattle.lists.specs.Tests.{first_of}
 use Rattle.stamp.specs.Parts.{parts_at}
 use Rattle.stamp.specs.PartsLaws.{parts_list}
+use Rattle.stamp.specs.declared.Parts.{Parts}
 use Rattle.wire.specs.Write.{Output, refuse}
-use Rattle.wire.specs.declared.Written.TheVariants.{Wrote}
+use Rattle.wire.specs.Refusal.{refusal_numbered, numbered_back}
+use Rattle.wire.specs.declared.Refusal.TheVariants.{Unsound, Short}
 use Rattle.message.specs.Message.{message_bytes}
 use Rattle.meaning.specs.Book.{Book}
 use Rattle.meaning.specs.BookLaws.{Sound}
@@ -54,13 +56,13 @@ module _ (b : Book) (s : Sound b) where
 
   pub send-on : (out : List ℕ) → send_on (words_of b) out ≡ put_front (message_bytes (send b)) out
   unfolding send_on
-  send-on out = ap (λ (c : Bool). cond c (put_front (message_bytes (send (book_of (words_of b)))) out) (refuse 11 out))
+  send-on out = ap (λ (c : Bool). cond c (put_front (message_bytes (send (book_of (words_of b)))) out) (refuse Unsound out))
       lawful-now ∙ ap (λ (x : Book). put_front (message_bytes (send x)) out) book-back
 
 -- send answers by the first of its stops that holds
 abbrev sent_by : List ℕ → List ℕ → Option Reply → Output
-sent_by bytes out none = record { answer = Wrote (length bytes); bytes = bytes ++ drop (length bytes) out }
-sent_by bytes out (some r) = refuse (get_or (figures r) 1 0) out
+sent_by bytes out none = record { answer = Ok (length bytes); bytes = bytes ++ drop (length bytes) out }
+sent_by bytes out (some r) = refuse (refusal_numbered (get_or (figures r) 1 0)) out
 
 pub send-first : (ws out : List ℕ) → let bytes = message_bytes (send (book_of ws)) in
     send_on ws out ≡ sent_by bytes out (first_of (send_stops (lawful ws) (length bytes) (length out)))
@@ -71,8 +73,8 @@ send-first ws out = go (lawful ws) (ltb (length out) (length message))
     message = message_bytes (send (book_of ws))
 
     go : (c s : Bool)
-        → cond c (cond s (refuse 12 out)
-        (record { answer = Wrote (length message); bytes = message ++ drop (length message) out })) (refuse 11 out)
+        → cond c (cond s (refuse Short out)
+        (record { answer = Ok (length message); bytes = message ++ drop (length message) out })) (refuse Unsound out)
         ≡ sent_by message out (first_of ((not c, refusal 11) ∷ (s, refusal 12) ∷ []))
     go true true = refl
     go true false = refl
@@ -82,18 +84,22 @@ send-first ws out = go (lawful ws) (ltb (length out) (length message))
 abbrev answer_of : Reply → answer.Reply
 answer_of (meaning.taken s) = says.Taken (parts_at 0 s)
 answer_of (meaning.already s) = says.Already (parts_at 0 s)
-answer_of (meaning.verdict v h a d s) = says.Verdict v h a d (parts_at 0 s)
+answer_of (meaning.verdict v h a d s) =
+    says.Verdict (record { verdict = v; showing = h; accepts = a; declines = d; value = parts_at 0 s })
 answer_of (meaning.wait bits) = says.Wait bits
-answer_of (meaning.refusal k) = says.Refused k
-answer_of (meaning.gossiped new applied) = says.Gossiped new applied
+answer_of (meaning.refusal k) = says.Refused (refusal_numbered k)
+answer_of (meaning.gossiped new applied) = says.Gossiped (record { new = new; applied = applied })
 
 answer_back : (r : answer.Reply) → answer_of (spoken r) ≡ r
 answer_back (says.Taken s) = ap says.Taken (parts_list s)
 answer_back (says.Already s) = ap says.Already (parts_list s)
-answer_back (says.Verdict v h a d s) = ap (says.Verdict v h a d) (parts_list s)
+answer_back (says.Verdict v) =
+    ap (λ (s : Parts).
+    says.Verdict (record { verdict = v.verdict; showing = v.showing; accepts = v.accepts; declines = v.declines; value = s }))
+    (parts_list v.value)
 answer_back (says.Wait bits) = refl
-answer_back (says.Refused k) = refl
-answer_back (says.Gossiped new applied) = refl
+answer_back (says.Refused r) = ap says.Refused (numbered_back r)
+answer_back (says.Gossiped g) = refl
 
 -- for any two outcomes that both satisfy an operation's promise, equality
 pub one-outcome : (o : Lent) (r r' : answer.Reply) (w w' : List ℕ) → Promise o r w → Promise o r' w'

@@ -1,9 +1,7 @@
 -- Which of the six replies some bytes are. Assumes nothing.
-use Rattle.std.specs.Prelude.{ℕ, Bool, true, false, cond, List, [], ◌∷◌}
-use Rattle.wire.specs.declared.Said.{Said}
+use Rattle.std.specs.Prelude.{ℕ, cond, List, [], ◌∷◌}
 use Rattle.wire.specs.Kinds.{Kind, taken_kind, already_kind, verdict_kind, wait_kind, refusal_kind, gossip_taken_kind}
 use Rattle.wire.specs.Read.{readable}
-use Rattle.wire.specs.Said.{figures}
 
 abbrev pub reply_kinds : List Kind
 reply_kinds = taken_kind ∷ already_kind ∷ verdict_kind ∷ wait_kind ∷ refusal_kind ∷ gossip_taken_kind ∷ []
@@ -16,11 +14,3 @@ kind_among (k ∷ ks) bytes = cond (readable k bytes) k.number (kind_among ks by
 -- 5 to 10 for a reply that keeps its field rules, and 0 for all other bytes
 unfoldable pub reply_kind : List ℕ → ℕ
 reply_kind bytes = kind_among reply_kinds bytes
-
--- a reader's answer says a message: it has values, and bytes that are refused have none
-abbrev pub not_empty : List ℕ → Bool
-not_empty [] = false
-not_empty (x ∷ xs) = true
-
-unfoldable pub is_message : Said → Bool
-is_message v = not_empty (figures v)

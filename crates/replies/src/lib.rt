@@ -7,18 +7,19 @@ ghost use Rattle.wire.specs.Kinds.{stamp_body, verdict_body, in_table};
 ghost use Rattle.wire.specs.Kinds.{taken_kind, already_kind, verdict_kind, wait_kind, refusal_kind, gossip_taken_kind};
 ghost use Rattle.wire.specs.Read.{read_as};
 ghost use Rattle.wire.specs.Said.{figures};
+ghost use Rattle.wire.specs.Says.{says, verdict_says, gossip_taken_says};
 ghost use Rattle.wire.specs.Write.{Meets, put_line, write_as};
-ghost use Rattle.wire.specs.declared.Said.TheVariants as said;
-ghost use Rattle.replies.specs.Which.{is_message, reply_kind};
+ghost use Rattle.wire.specs.Says as said;
+ghost use Rattle.replies.specs.Which.{reply_kind};
 
 use limits::PARTS;
 use numbers::read_fields;
 use stamp::{Parts, parts_at, put_parts};
 use tally::{CONTESTED, UNASKED};
 use wire::{
-    ALREADY, BAD, BITS_WIDTH, GOSSIP_TAKEN, GOSSIP_TAKEN_BODY, KIND_SIZE, PART_WIDTH, REFUSAL,
-    REFUSAL_BODY, Said, TAKEN, TAKEN_BODY, VERDICT, VERDICT_BODY, WAIT, WAIT_BODY, Written,
-    is_kind, put_line,
+    ALREADY, BITS_WIDTH, GOSSIP_TAKEN, GOSSIP_TAKEN_BODY, GossipTaken, KIND_SIZE, PART_WIDTH,
+    REFUSAL, REFUSAL_BODY, Refusal, TAKEN, TAKEN_BODY, VERDICT, VERDICT_BODY, Verdict, WAIT,
+    WAIT_BODY, is_kind, put_line,
 };
 
 // Where the fields stand in a line: the kind first, a stamp in as many places as it has parts.
@@ -82,37 +83,37 @@ fn stamp_widths() -> [usize; STAMP_LINE]
     ws
 }
 
-pub fn read_taken(msg: &[u8]) -> Said
-    ensures { result ≡ read_as taken_kind msg.now }
+pub fn read_taken(msg: &[u8]) -> Result<Parts, Refusal>
+    ensures { says said.Taken result ≡ read_as taken_kind msg.now }
 {
     if !is_kind(msg, TAKEN) {
-        return Said::Unreadable(BAD);
+        return Err(Refusal::Bad);
     }
     let ws = stamp_widths();
     let mut line = [0u64; STAMP_LINE];
     read_fields(&mut line, &ws, msg);
-    Said::Taken(parts_at(&line, FIRST))
+    Ok(parts_at(&line, FIRST))
 }
 
-pub fn write_taken(stamp: Parts, out: &mut [u8]) -> Written
+pub fn write_taken(stamp: Parts, out: &mut [u8]) -> Result<usize, Refusal>
     ensures { Meets (write_as taken_kind (figures (said.Taken stamp)) out.old) result out.new }
 {
     put_stamp(TAKEN, stamp, out)
 }
 
-pub fn read_already(msg: &[u8]) -> Said
-    ensures { result ≡ read_as already_kind msg.now }
+pub fn read_already(msg: &[u8]) -> Result<Parts, Refusal>
+    ensures { says said.Already result ≡ read_as already_kind msg.now }
 {
     if !is_kind(msg, ALREADY) {
-        return Said::Unreadable(BAD);
+        return Err(Refusal::Bad);
     }
     let ws = stamp_widths();
     let mut line = [0u64; STAMP_LINE];
     read_fields(&mut line, &ws, msg);
-    Said::Already(parts_at(&line, FIRST))
+    Ok(parts_at(&line, FIRST))
 }
 
-pub fn write_already(stamp: Parts, out: &mut [u8]) -> Written
+pub fn write_already(stamp: Parts, out: &mut [u8]) -> Result<usize, Refusal>
     ensures { Meets (write_as already_kind (figures (said.Already stamp)) out.old) result
         out.new }
 {
@@ -120,7 +121,7 @@ pub fn write_already(stamp: Parts, out: &mut [u8]) -> Written
 }
 
 // The two kinds that hold a stamp alone.
-fn put_stamp(kind: u8, s: Parts, out: &mut [u8]) -> Written
+fn put_stamp(kind: u8, s: Parts, out: &mut [u8]) -> Result<usize, Refusal>
     ensures { Meets (put_line (1 ∷ stamp_body) (kind ∷ list_of s) out.old) result out.new }
 {
     let mut line = [0u64; STAMP_LINE];
@@ -151,27 +152,27 @@ fn verdict_widths() -> [usize; VERDICT_LINE]
     ws
 }
 
-pub fn read_verdict(msg: &[u8]) -> Said
-    ensures { result ≡ read_as verdict_kind msg.now }
+pub fn read_verdict(msg: &[u8]) -> Result<Verdict, Refusal>
+    ensures { says verdict_says result ≡ read_as verdict_kind msg.now }
 {
     if !is_kind(msg, VERDICT) {
-        return Said::Unreadable(BAD);
+        return Err(Refusal::Bad);
     }
     let ws = verdict_widths();
     let mut line = [0u64; VERDICT_LINE];
     read_fields(&mut line, &ws, msg);
     let verdict = line[FIRST];
     if !verdict_fits(verdict) {
-        return Said::Unreadable(BAD);
+        return Err(Refusal::Bad);
     }
     let value = parts_at(&line, FIFTH);
-    Said::Verdict {
-        verdict: verdict,
+    Ok(Verdict {
+        verdict,
         showing: line[SECOND],
         accepts: line[THIRD],
         declines: line[FOURTH],
-        value: value,
-    }
+        value,
+    })
 }
 
 pub fn write_verdict(
@@ -181,12 +182,12 @@ pub fn write_verdict(
     declines: u64,
     value: Parts,
     out: &mut [u8],
-) -> Written
+) -> Result<usize, Refusal>
     ensures { Meets (write_as verdict_kind (figures (said.Verdict verdict showing accepts declines value))
         out.old) result out.new }
 {
     if !verdict_fits(verdict) {
-        return Written::Refused(BAD);
+        return Err(Refusal::Bad);
     }
     let mut line = [0u64; VERDICT_LINE];
     line[KIND] = VERDICT as u64;
@@ -199,18 +200,18 @@ pub fn write_verdict(
     put_line(&ws, VERDICT_SIZE, &line, out)
 }
 
-pub fn read_wait(msg: &[u8]) -> Said
-    ensures { result ≡ read_as wait_kind msg.now }
+pub fn read_wait(msg: &[u8]) -> Result<u64, Refusal>
+    ensures { says said.Wait result ≡ read_as wait_kind msg.now }
 {
     if !is_kind(msg, WAIT) {
-        return Said::Unreadable(BAD);
+        return Err(Refusal::Bad);
     }
     let mut line = [0u64; WAIT_LINE];
     read_fields(&mut line, &WAIT_WIDTHS, msg);
-    Said::Wait(line[FIRST])
+    Ok(line[FIRST])
 }
 
-pub fn write_wait(bits: u64, out: &mut [u8]) -> Written
+pub fn write_wait(bits: u64, out: &mut [u8]) -> Result<usize, Refusal>
     ensures { Meets (write_as wait_kind (figures (said.Wait bits)) out.old) result out.new }
 {
     let line = [WAIT as u64, bits];
@@ -226,46 +227,46 @@ fn in_table(number: u64) -> bool
     }
 }
 
-pub fn read_refusal(msg: &[u8]) -> Said
-    ensures { result ≡ read_as refusal_kind msg.now }
+pub fn read_refusal(msg: &[u8]) -> Result<u64, Refusal>
+    ensures { says said.Refusal result ≡ read_as refusal_kind msg.now }
 {
     if !is_kind(msg, REFUSAL) {
-        return Said::Unreadable(BAD);
+        return Err(Refusal::Bad);
     }
     let mut line = [0u64; REFUSAL_LINE];
     read_fields(&mut line, &REFUSAL_WIDTHS, msg);
     let number = line[FIRST];
     if !in_table(number) {
-        return Said::Unreadable(BAD);
+        return Err(Refusal::Bad);
     }
-    Said::Refusal(number)
+    Ok(number)
 }
 
-pub fn write_refusal(number: u64, out: &mut [u8]) -> Written
+pub fn write_refusal(number: u64, out: &mut [u8]) -> Result<usize, Refusal>
     ensures { Meets (write_as refusal_kind (figures (said.Refusal number)) out.old) result out.new }
 {
     if !in_table(number) {
-        return Written::Refused(BAD);
+        return Err(Refusal::Bad);
     }
     let line = [REFUSAL as u64, number];
     put_line(&REFUSAL_WIDTHS, REFUSAL_SIZE, &line, out)
 }
 
-pub fn read_gossip_taken(msg: &[u8]) -> Said
-    ensures { result ≡ read_as gossip_taken_kind msg.now }
+pub fn read_gossip_taken(msg: &[u8]) -> Result<GossipTaken, Refusal>
+    ensures { says gossip_taken_says result ≡ read_as gossip_taken_kind msg.now }
 {
     if !is_kind(msg, GOSSIP_TAKEN) {
-        return Said::Unreadable(BAD);
+        return Err(Refusal::Bad);
     }
     let mut line = [0u64; GOSSIP_TAKEN_LINE];
     read_fields(&mut line, &GOSSIP_TAKEN_WIDTHS, msg);
-    Said::GossipTaken {
+    Ok(GossipTaken {
         new: line[FIRST],
         applied: line[SECOND],
-    }
+    })
 }
 
-pub fn write_gossip_taken(new: u64, applied: u64, out: &mut [u8]) -> Written
+pub fn write_gossip_taken(new: u64, applied: u64, out: &mut [u8]) -> Result<usize, Refusal>
     ensures { Meets (write_as gossip_taken_kind (figures (said.GossipTaken new applied)) out.old) result
         out.new }
 {
@@ -273,37 +274,26 @@ pub fn write_gossip_taken(new: u64, applied: u64, out: &mut [u8]) -> Written
     put_line(&GOSSIP_TAKEN_WIDTHS, GOSSIP_TAKEN_SIZE, &line, out)
 }
 
-// Whether a reader's answer is a message.
-#[tactic(auto, unfolding(crate::specs::Which::is_message))]
-fn is_message(said: Said) -> bool
-    ensures { result ≡ is_message said }
-{
-    match said {
-        Said::Unreadable(_) => false,
-        _ => true,
-    }
-}
-
 // The kind of the reply that the bytes are; 0 where they are none that keeps its field rules.
 pub fn reply_kind(msg: &[u8]) -> u8
     ensures { result ≡ reply_kind msg.now }
 {
-    if is_message(read_taken(msg)) {
+    if read_taken(msg).is_ok() {
         return TAKEN;
     }
-    if is_message(read_already(msg)) {
+    if read_already(msg).is_ok() {
         return ALREADY;
     }
-    if is_message(read_verdict(msg)) {
+    if read_verdict(msg).is_ok() {
         return VERDICT;
     }
-    if is_message(read_wait(msg)) {
+    if read_wait(msg).is_ok() {
         return WAIT;
     }
-    if is_message(read_refusal(msg)) {
+    if read_refusal(msg).is_ok() {
         return REFUSAL;
     }
-    if is_message(read_gossip_taken(msg)) {
+    if read_gossip_taken(msg).is_ok() {
         return GOSSIP_TAKEN;
     }
     NO_REPLY

@@ -14,7 +14,7 @@ use Rattle.tally.specs.Body.{body_fits}
 use Rattle.tally.proofs.BodyLaws.{tap-body}
 use Rattle.tally.specs.Tap.{tap_fits, word_of}
 use Rattle.ledger.specs.Record.{label_rules, record_fits, is_known, knows}
-use Rattle.wire.specs.declared.Said.TheVariants as said
+use Rattle.wire.specs.Says as said
 use Rattle.wire.specs.Said.{figures}
 use Rattle.wire.specs.Kinds.{record_kind}
 

@@ -11,8 +11,9 @@ ghost use Rattle.wire.specs.Kinds.{tap_body, head_body, record_body, tap_message
 ghost use Rattle.wire.specs.Kinds.{tap_at, head_kind, record_kind, tap_kind, question_kind, open_kind, send_kind};
 ghost use Rattle.wire.specs.Read.{read_as};
 ghost use Rattle.wire.specs.Said.{figures};
+ghost use Rattle.wire.specs.Says.{says, head_says, record_says, tap_says, question_says, open_says};
 ghost use Rattle.wire.specs.Write.{Meets, write_as};
-ghost use Rattle.wire.specs.declared.Said.TheVariants as said;
+ghost use Rattle.wire.specs.Says as said;
 
 use ledger::{in_range, label_fits};
 use limits::{LOG_ROOM, PARTS};
@@ -20,8 +21,9 @@ use numbers::read_fields;
 use stamp::{Parts, list_of, part_of, parts_at, parts_fit, put_parts};
 use tally::{Tap, fits, prompt_fits};
 use wire::{
-    BAD, HEAD, HEAD_SIZE, KIND_SIZE, OPEN, OPEN_BODY, PART_WIDTH, QUESTION, QUESTION_BODY, RECORD,
-    RECORD_SIZE, SEND, SEND_BODY, Said, TAP, TAP_BODY, Written, is_kind, put_line,
+    HEAD, HEAD_SIZE, Head, KIND_SIZE, OPEN, OPEN_BODY, Open, PART_WIDTH, QUESTION, QUESTION_BODY,
+    Question, RECORD, RECORD_SIZE, Record, Refusal, SEND, SEND_BODY, TAP, TAP_BODY, TapRequest,
+    is_kind, put_line,
 };
 
 // Where the fields stand in a line: the kind first, a stamp in as many places as it has parts, a tap in five.
@@ -141,11 +143,11 @@ fn head_widths() -> [usize; HEAD_LINE]
     ws
 }
 
-pub fn read_head(msg: &[u8]) -> Said
-    ensures { result ≡ read_as head_kind msg.now }
+pub fn read_head(msg: &[u8]) -> Result<Head, Refusal>
+    ensures { says head_says result ≡ read_as head_kind msg.now }
 {
     if !is_kind(msg, HEAD) {
-        return Said::Unreadable(BAD);
+        return Err(Refusal::Bad);
     }
     let ws = head_widths();
     let mut line = [0u64; HEAD_LINE];
@@ -155,22 +157,28 @@ pub fn read_head(msg: &[u8]) -> Said
     let count = line[THIRD];
     let stamp = parts_at(&line, HEAD_STAMP);
     if !head_fits(sender, screens, count, stamp) {
-        return Said::Unreadable(BAD);
+        return Err(Refusal::Bad);
     }
-    Said::Head {
-        sender: sender,
-        screens: screens,
-        count: count,
-        stamp: stamp,
-    }
+    Ok(Head {
+        sender,
+        screens,
+        count,
+        stamp,
+    })
 }
 
-pub fn write_head(sender: u64, screens: u64, count: u64, stamp: Parts, out: &mut [u8]) -> Written
+pub fn write_head(
+    sender: u64,
+    screens: u64,
+    count: u64,
+    stamp: Parts,
+    out: &mut [u8],
+) -> Result<usize, Refusal>
     ensures { Meets (write_as head_kind (figures (said.Head sender screens count stamp)) out.old) result
         out.new }
 {
     if !head_fits(sender, screens, count, stamp) {
-        return Written::Refused(BAD);
+        return Err(Refusal::Bad);
     }
     let mut line = [0u64; HEAD_LINE];
     line[KIND] = HEAD as u64;
@@ -207,11 +215,11 @@ fn record_widths() -> [usize; RECORD_LINE]
 }
 
 // A record of a message whose head has n screens and stamp m.
-pub fn read_record(part: &[u8], n: usize, m: Parts) -> Said
-    ensures { result ≡ read_as (record_kind n (list_of m)) part.now }
+pub fn read_record(part: &[u8], n: usize, m: Parts) -> Result<Record, Refusal>
+    ensures { says record_says result ≡ read_as (record_kind n (list_of m)) part.now }
 {
     if !is_kind(part, RECORD) {
-        return Said::Unreadable(BAD);
+        return Err(Refusal::Bad);
     }
     let ws = record_widths();
     let mut line = [0u64; RECORD_LINE];
@@ -221,14 +229,14 @@ pub fn read_record(part: &[u8], n: usize, m: Parts) -> Said
     let label = parts_at(&line, RECORD_LABEL);
     let tap = tap_at(&line, RECORD_TAP);
     if !record_fits(origin, number, label, tap, n, m) {
-        return Said::Unreadable(BAD);
+        return Err(Refusal::Bad);
     }
-    Said::Record {
-        origin: origin,
-        number: number,
-        label: label,
-        tap: tap,
-    }
+    Ok(Record {
+        origin,
+        number,
+        label,
+        tap,
+    })
 }
 
 pub fn write_record(
@@ -239,12 +247,12 @@ pub fn write_record(
     n: usize,
     m: Parts,
     out: &mut [u8],
-) -> Written
+) -> Result<usize, Refusal>
     ensures { Meets (write_as (record_kind n (list_of m)) (figures (said.Record origin number label tap))
         out.old) result out.new }
 {
     if !record_fits(origin, number, label, tap, n, m) {
-        return Written::Refused(BAD);
+        return Err(Refusal::Bad);
     }
     let mut line = [0u64; RECORD_LINE];
     line[KIND] = RECORD as u64;
@@ -275,11 +283,11 @@ fn tap_widths() -> [usize; TAP_LINE]
 }
 
 // With no book at hand n is the number of parts, and all are free; so for a question.
-pub fn read_tap(msg: &[u8], n: usize) -> Said
-    ensures { result ≡ read_as (tap_kind n) msg.now }
+pub fn read_tap(msg: &[u8], n: usize) -> Result<TapRequest, Refusal>
+    ensures { says tap_says result ≡ read_as (tap_kind n) msg.now }
 {
     if !is_kind(msg, TAP) {
-        return Said::Unreadable(BAD);
+        return Err(Refusal::Bad);
     }
     let ws = tap_widths();
     let mut line = [0u64; TAP_LINE];
@@ -287,20 +295,17 @@ pub fn read_tap(msg: &[u8], n: usize) -> Said
     let tap = tap_at(&line, FIRST);
     let label = parts_at(&line, TAP_LABEL);
     if !tap_fits(tap, label, n) {
-        return Said::Unreadable(BAD);
+        return Err(Refusal::Bad);
     }
-    Said::Tap {
-        tap: tap,
-        label: label,
-    }
+    Ok(TapRequest { tap, label })
 }
 
-pub fn write_tap(tap: Tap, label: Parts, n: usize, out: &mut [u8]) -> Written
+pub fn write_tap(tap: Tap, label: Parts, n: usize, out: &mut [u8]) -> Result<usize, Refusal>
     ensures { Meets (write_as (tap_kind n) (figures (said.Tap tap label)) out.old) result
         out.new }
 {
     if !tap_fits(tap, label, n) {
-        return Written::Refused(BAD);
+        return Err(Refusal::Bad);
     }
     let mut line = [0u64; TAP_LINE];
     line[KIND] = TAP as u64;
@@ -328,11 +333,11 @@ fn question_widths() -> [usize; QUESTION_LINE]
     ws
 }
 
-pub fn read_question(msg: &[u8], n: usize) -> Said
-    ensures { result ≡ read_as (question_kind n) msg.now }
+pub fn read_question(msg: &[u8], n: usize) -> Result<Question, Refusal>
+    ensures { says question_says result ≡ read_as (question_kind n) msg.now }
 {
     if !is_kind(msg, QUESTION) {
-        return Said::Unreadable(BAD);
+        return Err(Refusal::Bad);
     }
     let ws = question_widths();
     let mut line = [0u64; QUESTION_LINE];
@@ -340,20 +345,17 @@ pub fn read_question(msg: &[u8], n: usize) -> Said
     let prompt = line[FIRST];
     let label = parts_at(&line, QUESTION_LABEL);
     if !question_fits(prompt, label, n) {
-        return Said::Unreadable(BAD);
+        return Err(Refusal::Bad);
     }
-    Said::Question {
-        prompt: prompt,
-        label: label,
-    }
+    Ok(Question { prompt, label })
 }
 
-pub fn write_question(prompt: u64, label: Parts, n: usize, out: &mut [u8]) -> Written
+pub fn write_question(prompt: u64, label: Parts, n: usize, out: &mut [u8]) -> Result<usize, Refusal>
     ensures { Meets (write_as (question_kind n) (figures (said.Question prompt label)) out.old) result
         out.new }
 {
     if !question_fits(prompt, label, n) {
-        return Written::Refused(BAD);
+        return Err(Refusal::Bad);
     }
     let mut line = [0u64; QUESTION_LINE];
     line[KIND] = QUESTION as u64;
@@ -364,21 +366,21 @@ pub fn write_question(prompt: u64, label: Parts, n: usize, out: &mut [u8]) -> Wr
 }
 
 // Its fields are judged by refusal 2, not here.
-pub fn read_open(msg: &[u8]) -> Said
-    ensures { result ≡ read_as open_kind msg.now }
+pub fn read_open(msg: &[u8]) -> Result<Open, Refusal>
+    ensures { says open_says result ≡ read_as open_kind msg.now }
 {
     if !is_kind(msg, OPEN) {
-        return Said::Unreadable(BAD);
+        return Err(Refusal::Bad);
     }
     let mut line = [0u64; OPEN_LINE];
     read_fields(&mut line, &OPEN_WIDTHS, msg);
-    Said::Open {
+    Ok(Open {
         screen: line[FIRST],
         screens: line[SECOND],
-    }
+    })
 }
 
-pub fn write_open(screen: u64, screens: u64, out: &mut [u8]) -> Written
+pub fn write_open(screen: u64, screens: u64, out: &mut [u8]) -> Result<usize, Refusal>
     ensures { Meets (write_as open_kind (figures (said.Open screen screens)) out.old) result
         out.new }
 {
@@ -386,16 +388,16 @@ pub fn write_open(screen: u64, screens: u64, out: &mut [u8]) -> Written
     put_line(&OPEN_WIDTHS, OPEN_SIZE, &line, out)
 }
 
-pub fn read_send(msg: &[u8]) -> Said
-    ensures { result ≡ read_as send_kind msg.now }
+pub fn read_send(msg: &[u8]) -> Result<(), Refusal>
+    ensures { says (λ _. said.Send) result ≡ read_as send_kind msg.now }
 {
     if !is_kind(msg, SEND) {
-        return Said::Unreadable(BAD);
+        return Err(Refusal::Bad);
     }
-    Said::Send
+    Ok(())
 }
 
-pub fn write_send(out: &mut [u8]) -> Written
+pub fn write_send(out: &mut [u8]) -> Result<usize, Refusal>
     ensures { Meets (write_as send_kind (figures said.Send) out.old) result out.new }
 {
     let line = [SEND as u64];

@@ -20,7 +20,7 @@ use lent::{known_of, log_row, logged_of, screen_of, screens_of};
 use requests::{write_head, write_record};
 use stamp::{Parts, parts_at};
 use tally::unpack;
-use wire::{HEAD_SIZE, RECORD_SIZE, SHORT, Written};
+use wire::{HEAD_SIZE, RECORD_SIZE, Refusal};
 
 // The known stamp.
 fn stamp_of(b: &[u64]) -> Parts
@@ -38,7 +38,7 @@ fn put_head(b: &[u64], m: Parts, out: &mut [u8])
     requires head_long_in_bounds { head_long ≤ length out.old }
     ensures { out.new ≡ with_head (send (book_of b.now)) out.old }
 {
-    write_head(screen_of(b), screens_of(b), logged_of(b) as u64, m, out);
+    let _ = write_head(screen_of(b), screens_of(b), logged_of(b) as u64, m, out);
 }
 
 // A row's record over the whole of a part, in a message of n screens and stamp m.
@@ -49,7 +49,7 @@ fn put_row(row: &[u64], n: usize, m: Parts, part: &mut [u8])
 {
     let label = parts_at(row, LABEL);
     let tap = unpack(row[BODY]);
-    write_record(row[ORIGIN], row[NUMBER], label, tap, n, m, part);
+    let _ = write_record(row[ORIGIN], row[NUMBER], label, tap, n, m, part);
 }
 
 // The log's i-th record at its place in the message.
@@ -86,17 +86,17 @@ fn put_records(b: &[u64], m: Parts, out: &mut [u8])
 }
 
 // The message of a sound book, or refusal 12 where the output is shorter than it. Output past the message stays.
-pub fn send_book(b: &[u64], out: &mut [u8]) -> Written
+pub fn send_book(b: &[u64], out: &mut [u8]) -> Result<usize, Refusal>
     requires { T (lawful b.now) }
     ensures { Meets (put_front (message_bytes (send (book_of b.now))) out.old) result
         out.new }
 {
     let long = HEAD_SIZE + logged_of(b) * RECORD_SIZE;
     if out.len() < long {
-        return Written::Refused(SHORT);
+        return Err(Refusal::Short);
     }
     let m = stamp_of(b);
     put_head(b, m, out);
     put_records(b, m, out);
-    Written::Wrote(long)
+    Ok(long)
 }

@@ -122,6 +122,13 @@ module _ (before now : Stamp) (r : Record) (b : Book) where
   unfolding apply_one is_newly_applied
   newly e f = (rw (e, f), rw (e, f))
 
+-- the tests of a copy of the record
+pub newly_at : (before now : Stamp) (r copy : Record) (b : Book) → copy ≡ r → is_applied now copy ≡ true
+    → is_applied before copy ≡ false
+    → (apply_one before now r b ≡ added r b) × (is_newly_applied before now r ≡ true)
+newly_at before now r copy b same e f =
+    newly before now r b (ap (is_applied now) (sym same) ∙ e) (ap (is_applied before) (sym same) ∙ f)
+
 -- the log from its end to its start
 module _ (before now : Stamp) (ws : List ℕ) (h : Held ws) (y : Appliable before now (book_of ws)) where
   none-newly : length (newly_applied before now []) ≡ 0

@@ -2,12 +2,11 @@
 // is dropped.
 #![tactic(auto)]
 
-ghost use Rattle.std.specs.Prelude.{◌≡◌, [], ◌∷◌, ◌≤◌, ◌<◌, length, get_or};
-ghost use Rattle.lists.specs.TestLaws.{bit};
+ghost use Rattle.std.specs.Prelude.{◌≡◌, [], ◌∷◌, ◌<◌, length, get_or};
 ghost use Rattle.tally.specs.Tap.{tap_of};
 ghost use Rattle.ledger.specs.Log.{newly_applied};
 ghost use Rattle.ledger.specs.Record.{stamp_of};
-ghost use Rattle.book_log.specs.Region.{row_long, stamp_long, record_at};
+ghost use Rattle.book_log.specs.Region.{stamp_long, record_at};
 ghost use Rattle.meaning.specs.Book.{ready};
 ghost use Rattle.lent.specs.Held.{Held};
 ghost use Rattle.lent.specs.Rows.{no_record};
@@ -15,7 +14,7 @@ ghost use Rattle.lent.specs.Words.{book_of, words_of};
 ghost use Rattle.settle.specs.Moves.{count_taps, added, is_newly_applied, apply_one, apply_all, settled};
 ghost use Rattle.settle.specs.Ready.{Countable, Applicable, Appliable};
 
-use book_log::{BODY, LABEL, NUMBER, ORIGIN, is_applied};
+use book_log::{BODY, LABEL, NUMBER, ORIGIN, ROW, is_applied};
 use lent::{drop_log, insert_tap, is_counted, log_row, logged_of, merge_value, note_tap, ready_of};
 use limits::PARTS;
 use stamp::{list_of, parts_at, replace_part};
@@ -34,8 +33,8 @@ fn count_tap(b: &mut [u64], w: u64)
 }
 
 // The stamp of a row's record.
-pub fn row_stamp(row: &[u64]) -> [u64; PARTS]
-    requires { (length row.now ≡ row_long) × ((record_at row.now).origin < stamp_long) }
+pub fn row_stamp(row: &[u64; ROW]) -> [u64; PARTS]
+    requires { (record_at row.now).origin < stamp_long }
     ensures { result ≡ stamp_of (record_at row.now) }
 {
     let mut s = list_of(parts_at(row, LABEL));
@@ -44,9 +43,9 @@ pub fn row_stamp(row: &[u64]) -> [u64; PARTS]
 }
 
 // A row's record merged into the value stamp, and its tap counted.
-fn apply_record(b: &mut [u64], row: &[u64])
+fn apply_record(b: &mut [u64], row: &[u64; ROW])
     requires held { Held b.old }
-    requires row_len { (length row.now ≡ row_long) × ((record_at row.now).origin < stamp_long) }
+    requires origin { (record_at row.now).origin < stamp_long }
     requires countable { Countable (record_at row.now).body (book_of b.old) }
     ensures { b.new ≡ words_of (added (record_at row.now) (book_of b.old)) }
 {
@@ -56,10 +55,9 @@ fn apply_record(b: &mut [u64], row: &[u64])
 }
 
 // Applies the log's i-th record if it is applied under s and was not before. Tells whether.
-fn apply_row(b: &mut [u64], i: usize, before: &[u64], s: &[u64]) -> bool
+fn apply_row(b: &mut [u64], i: usize, before: &[u64; PARTS], s: &[u64; PARTS]) -> bool
     requires held { Held b.old }
     requires i_in_bounds { i < length (book_of b.old).log }
-    requires before_len { (length before.now ≡ stamp_long) × (length s.now ≡ stamp_long) }
     requires applicable { Applicable before.now s.now (get_or (book_of b.old).log i no_record) (book_of b.old) }
     ensures b_after { b.new
         ≡ words_of (apply_one before.now s.now (get_or (book_of b.old).log i no_record)
@@ -78,16 +76,9 @@ fn apply_row(b: &mut [u64], i: usize, before: &[u64], s: &[u64]) -> bool
     true
 }
 
-fn one_if(b: bool) -> u64
-    ensures { (result ≡ bit b) × (result ≤ 1) }
-{
-    if b { 1 } else { 0 }
-}
-
 // Applies what of the log is applied under s and was not before, from the last record to the first. Gives how many.
-fn apply_log(b: &mut [u64], before: &[u64], s: &[u64]) -> u64
+fn apply_log(b: &mut [u64], before: &[u64; PARTS], s: &[u64; PARTS]) -> u64
     requires held { Held b.old }
-    requires before_len { (length before.now ≡ stamp_long) × (length s.now ≡ stamp_long) }
     requires appliable { Appliable before.now s.now (book_of b.old) }
     ensures b_after { b.new
         ≡ words_of (apply_all before.now s.now (book_of b.old).log
@@ -96,19 +87,16 @@ fn apply_log(b: &mut [u64], before: &[u64], s: &[u64]) -> u64
         (newly_applied before.now s.now (book_of b.old).log) }
 {
     let mut n: u64 = 0;
-    let mut i = logged_of(b);
-    while 0 < i {
-        i -= 1;
-        n += one_if(apply_row(b, i, before, s));
+    for i in (0..logged_of(b)).rev() {
+        n += u64::from(apply_row(b, i, before, s));
     }
     n
 }
 
 // Puts the book in order, whose ready stamp was `before`. Gives how many records became applied.
-pub fn settle_book(b: &mut [u64], before: &[u64]) -> u64
+pub fn settle_book(b: &mut [u64], before: &[u64; PARTS]) -> u64
     requires held { Held b.old }
     requires b_bound { (book_of b.old).me < (book_of b.old).screens }
-    requires before_len { length before.now ≡ stamp_long }
     requires appliable { Appliable before.now (ready (book_of b.old)) (book_of b.old) }
     ensures b_after { b.new ≡ words_of (settled before.now (book_of b.old)) }
     ensures value { result

@@ -360,6 +360,13 @@ accept-there ts p h = go (some-kept (λ u. eqb u.showing top && eqb u.answer acc
       eqb→eq w.0.answer accept (and_r (eqb w.0.showing top) (eqb w.0.answer accept) w.2),
     )
 
+-- a verdict as its number
+pub verdict_is : (s : Standing)
+    → verdict_of s
+    ≡ cond (ltb 0 s.accepts) (cond (ltb 0 s.declines) 3 1) (cond (ltb 0 s.declines) 2 0)
+unfolding verdict_of unasked accepted declined contested
+verdict_is s = refl
+
 -- accepts and declines mean Contested, declines alone Declined, neither Unasked; so Accepted means accepts only
 pub both-contested : (s : Standing) → 0 < s.accepts → 0 < s.declines → verdict_of s ≡ contested
 unfolding verdict_of

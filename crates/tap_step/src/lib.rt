@@ -10,7 +10,7 @@ ghost use Rattle.stamp.specs.Stamp.{part, stamp_fits, total};
 ghost use Rattle.tally.specs.Body.{body_of, body_fits};
 ghost use Rattle.tally.specs.Tap.{tap_fits};
 ghost use Rattle.ledger.specs.Record.{stamp_of};
-ghost use Rattle.book_log.specs.Region.{row_long, stamp_long, record_at};
+ghost use Rattle.book_log.specs.Region.{stamp_long, record_at};
 ghost use Rattle.meaning.specs.Book.{known};
 ghost use Rattle.meaning.specs.Step.{new_record, take_book, tap_stops, tap_step};
 ghost use Rattle.meaning.specs.Done.{TakeDone};
@@ -28,21 +28,15 @@ use lent::{
     screen_of, value_of,
 };
 use limits::{book_room, log_room};
-use promise::{NO_ROOM, Reply, SPENT, UNKNOWN_LABEL};
+use promise::Reply;
 use settle::{row_stamp, settle_book};
 use stamp::{Parts, part_at, parts_at, sum};
-use tally::{Tap, pack};
-
-// The reply that stops a tap, or the tap and its label, which may be taken.
-#[derive(Clone, Copy)]
-pub enum TapStop {
-    Stopped(Reply),
-    Clear { tap: Tap, label: Parts },
-}
+use tally::pack;
+use wire::{Refusal, TapRequest};
 
 // The stamp of a row's record.
-fn stamp_parts(row: &[u64]) -> Parts
-    requires { (length row.now ≡ row_long) × ((record_at row.now).origin < stamp_long) }
+fn stamp_parts(row: &[u64; ROW]) -> Parts
+    requires { (record_at row.now).origin < stamp_long }
     ensures { list_of result ≡ stamp_of (record_at row.now) }
 {
     let s = row_stamp(row);
@@ -74,8 +68,7 @@ fn new_row(b: &[u64], w: u64, label: Parts) -> [u64; ROW]
     requires b_bound { (book_of b.now).me < (book_of b.now).screens }
     requires b_bound_2 { part (known (book_of b.now)) (book_of b.now).me < word }
     requires t { T (body_fits w) }
-    ensures { (record_at result ≡ new_record (book_of b.now) (body_of w) (list_of label))
-        × (length result ≡ row_long) }
+    ensures { record_at result ≡ new_record (book_of b.now) (body_of w) (list_of label) }
 {
     let i = screen_of(b);
     let s = known_of(b);
@@ -98,40 +91,38 @@ fn enter(b: &mut [u64], w: u64, label: Parts) -> Parts
     stamp_parts(&row)
 }
 
-// What stops a tap; with nothing, the tap and its label. No word changes.
-pub fn stop_tap(b: &[u64], tap: Tap, label: Parts) -> TapStop
-    requires t { T (lawful b.now) }
-    requires t_2 { T (tap_fits tap) }
-    requires t_3 { T (stamp_fits (book_of b.now).screens (list_of label)) }
-    ensures { StopsTap (book_of b.now) tap label result }
+// The tap, where it may be taken; or the reply that stops it. No word changes.
+pub fn stop_tap(b: &[u64], asked: TapRequest) -> Result<TapRequest, Reply>
+    requires sound { T (lawful b.now) }
+    requires tap_fits { T (tap_fits asked.tap) }
+    requires label_fits { T (stamp_fits (book_of b.now).screens (list_of asked.label)) }
+    ensures { StopsTap (book_of b.now) asked result }
 {
-    if label_unknown(b, label) {
-        return TapStop::Stopped(Reply::Refused(UNKNOWN_LABEL));
+    if label_unknown(b, asked.label) {
+        return Err(Reply::Refused(Refusal::UnknownLabel));
     }
-    let w = pack(tap);
+    let w = pack(asked.tap);
     if is_counted(b, w) {
-        return TapStop::Stopped(Reply::Already(value_of(b)));
+        return Err(Reply::Already(value_of(b)));
     }
-    let n = logged_of(b);
-    let i = find_logged(b, w);
-    if i < n {
-        return TapStop::Stopped(Reply::Already(logged_stamp(b, i)));
+    if let Some(i) = find_logged(b, w) {
+        return Err(Reply::Already(logged_stamp(b, i)));
     }
     if is_spent(b) {
-        return TapStop::Stopped(Reply::Refused(SPENT));
+        return Err(Reply::Refused(Refusal::Spent));
     }
-    if log_room() <= n as u64 {
-        return TapStop::Stopped(Reply::Refused(NO_ROOM));
+    if log_room() <= logged_of(b) as u64 {
+        return Err(Reply::Refused(Refusal::NoRoom));
     }
-    TapStop::Clear { tap, label }
+    Ok(asked)
 }
 
-// A tap that nothing stops, with its label, taken.
-pub fn take_tap(b: &mut [u64], tap: Tap, label: Parts) -> Reply
-    requires t { T (lawful b.old) }
-    requires label_value { first_of (tap_stops (book_of b.old) tap (list_of label)) ≡ none }
-    ensures { Promise (lent_of (tap_step (book_of b.old) tap (list_of label))) result b.new }
+// A tap that nothing stops, taken.
+pub fn take_tap(b: &mut [u64], asked: TapRequest) -> Reply
+    requires sound { T (lawful b.old) }
+    requires unstopped { first_of (tap_stops (book_of b.old) asked.tap (list_of asked.label)) ≡ none }
+    ensures { Promise (lent_of (tap_step (book_of b.old) asked.tap (list_of asked.label))) result b.new }
 {
-    let w = pack(tap);
-    Reply::Taken(enter(b, w, label))
+    let w = pack(asked.tap);
+    Reply::Taken(enter(b, w, asked.label))
 }

@@ -1,6 +1,6 @@
 -- The edges of the field rules: what readers and writers take and refuse, in four tables under one claim. Assumes
 -- nothing.
-use Rattle.std.specs.Prelude.{ℕ, ◌+◌, ◌-◌, ◌*◌, ◌≡◌, refl, true, List, [], ◌∷◌, ◌++◌, replicate}
+use Rattle.std.specs.Prelude.{ℕ, ◌+◌, ◌-◌, ◌*◌, ◌≡◌, refl, true, List, [], ◌∷◌, ◌++◌, replicate, Ok, Err}
 use Rattle.lists.specs.Table.{agrees}
 use Rattle.lists.specs.Tests.{numbers, keep}
 use Rattle.limits.specs.Limits.{parts, word, front_ends, serials, prompt_count, showings, accept, decline, fewest, most}
@@ -12,7 +12,7 @@ use Rattle.tally.specs.Tap.{tap_fits}
 use Rattle.ledger.specs.Message.{in_range}
 use Rattle.ledger.specs.Record.{record_fits, is_known, knows}
 use Rattle.numbers.specs.Number.{number_from, bytes_of}
-use Rattle.wire.specs.declared.Written.TheVariants.{Wrote, Refused}
+use Rattle.wire.specs.Refusal.{table_number}
 use Rattle.wire.specs.Kinds.{part_width, bits_width, Kind, body_by, shaped, in_table, head_kind, record_kind, tap_kind}
 use Rattle.wire.specs.Kinds.{question_kind, taken_kind, already_kind, verdict_kind, wait_kind, refusal_kind}
 use Rattle.wire.specs.Kinds.{gossip_taken_kind, open_kind}
@@ -28,7 +28,7 @@ takes k line xs = keep (λ x. writable k (line x)) xs
 
 -- what a writer answers, 0 and the length or the refusal, and the output after it
 outcome : Output → List ℕ
-outcome o = elim o.answer [ Wrote n ↦ 0 ∷ n ∷ o.bytes | Refused k ↦ k ∷ o.bytes ]
+outcome o = elim o.answer [ Ok n ↦ 0 ∷ n ∷ o.bytes | Err r ↦ table_number r ∷ o.bytes ]
 
 -- the first numbers; so many zeros
 firsts : ℕ → List ℕ

@@ -9,7 +9,7 @@
 --     read-front       the front of the output reads as the value that was written there
 --     one-outcome      two outcomes that a writer's promise allows are one
 --     body-few         no body is longer than a record's
-use Rattle.std.specs.Prelude.{ℕ, zero, suc, ◌+◌, ◌≤◌, ◌<◌, Bool, ◌&&◌, cond, leb, eqb, take, drop}
+use Rattle.std.specs.Prelude.{ℕ, zero, suc, ◌+◌, ◌≤◌, Bool, ◌&&◌, cond, leb, eqb, take, drop, Result, Ok, Err}
 use Rattle.std.proofs.Common.{arith, sym, ap₂, subst, ◌∙◌, leb→le, drop_of_length-le, drop-cons}
 use Rattle.std.proofs.Math.Path.{◌≡◌, refl, ap}
 use Rattle.std.proofs.Math.Bool.{true, false}
@@ -26,13 +26,11 @@ use Rattle.stamp.specs.Parts.{parts_at, list_of}
 use Rattle.numbers.specs.Number.{number_from, Bytes}
 use Rattle.numbers.specs.Fields.{fields_fit}
 use Rattle.numbers.proofs.FieldLaws.{length-read, read_write, write_read, fit-read, length_write}
-use Rattle.wire.specs.declared.Said.{Said}
-use Rattle.wire.specs.declared.Said.TheVariants as said
-use Rattle.wire.specs.declared.Written.{Written}
-use Rattle.wire.specs.declared.Written.TheVariants.{Wrote, Refused}
-use Rattle.wire.specs.declared.BodyLength.{BodyLength}
-use Rattle.wire.specs.declared.BodyLength.TheVariants.{Long}
-use Rattle.wire.specs.Said.{figures}
+use Rattle.wire.specs.Says.{Said}
+use Rattle.wire.specs.Says as said
+use Rattle.wire.specs.declared.Refusal.{Refusal}
+use Rattle.wire.specs.declared.Refusal.TheVariants.{Bad, Short}
+use Rattle.wire.specs.Said.{figures, read_figures}
 use Rattle.wire.specs.Kinds.{Kind, widths, size_of, lookup, bodies, body_by, is_long, shaped, head_kind, record_kind}
 use Rattle.wire.specs.Kinds.{tap_kind, question_kind, taken_kind, already_kind, verdict_kind, wait_kind, refusal_kind}
 use Rattle.limits.specs.KindNumbers.{head_number, record_number, tap_number, question_number, taken_number}
@@ -44,27 +42,26 @@ use Rattle.wire.specs.Kinds.{head_body, record_body, tap_message_body}
 use Rattle.wire.specs.Kinds.{question_body, taken_body, already_body, verdict_body, wait_body, refusal_body}
 use Rattle.wire.specs.Kinds.{gossip_taken_body, open_body, send_body}
 use Rattle.wire.specs.Read.{line_of, readable, read_as}
-use Rattle.wire.proofs.Returns.{fit_length}
-use Rattle.wire.specs.Write.{Output, Meets, refuse, writable, written, write_as}
+use Rattle.wire.specs.Write.{Output, Meets, refuse, Written, writable, written, write_as}
 
 -- a body that a table has is no longer than all of them
-lookup-few : (m k n : ℕ) (table : List (ℕ × ℕ)) → T (every (λ l. leb l.1 m) table) → lookup k table ≡ Long n → n ≤ m
+lookup-few : (m k n : ℕ) (table : List (ℕ × ℕ)) → T (every (λ l. leb l.1 m) table) → lookup k table ≡ Ok n → n ≤ m
 lookup-few m k n [] t e = let z : ◌≡◌ {A = ℕ} 0 1 = cc in absurd (omega arith)
 lookup-few m k n (l ∷ ls) t e =
     go (eqb k l.0) (lookup-few m k n ls (and_r (leb l.1 m) (every (λ x. leb x.1 m) ls) t)) e
   where
-    go : (c : Bool) → (lookup k ls ≡ Long n → n ≤ m) → cond c (Long l.1) (lookup k ls) ≡ Long n → n ≤ m
+    go : (c : Bool) → (lookup k ls ≡ Ok n → n ≤ m) → cond c (Ok l.1) (lookup k ls) ≡ Ok n → n ≤ m
     go true rec q = let z : l.1 ≡ n = cc in
         omega (arith, leb→le l.1 m (and_l (leb l.1 m) (every (λ x. leb x.1 m) ls) t))
     go false rec q = rec q
 
-pub body-few : (k n : ℕ) → body_by k ≡ Long n → n ≤ total record_body
+pub body-few : (k n : ℕ) → body_by k ≡ Ok n → n ≤ total record_body
 unfolding body_by
 body-few k n e = lookup-few (total record_body) k n bodies tt e
 
 -- the table has the body's length, and what a line of the kind says is that line
 pub record Lawful (k : Kind) : Type 0 where
-  pub long : body_by k.number ≡ Long (total k.body)
+  pub long : body_by k.number ≡ Ok (total k.body)
   pub told : (line : List ℕ) → length line ≡ length (widths k) → get_or line 0 0 ≡ k.number
       → figures (k.said line) ≡ line
 
@@ -109,7 +106,7 @@ module _ (k : Kind) (l : Lawful k) where
   shape-from bytes e n =
       both (eqb (get_or bytes 0 0) k.number) (is_long (body_by k.number) (length bytes))
       (eq→eqb (get_or bytes 0 0) k.number e)
-      (subst (λ (b : BodyLength). T (is_long b (length bytes))) (sym l.long) (eq→eqb (length bytes) (size_of k) n))
+      (subst (λ (b : Result ℕ Refusal). T (is_long b (length bytes))) (sym l.long) (eq→eqb (length bytes) (size_of k) n))
 
   module _ (bytes : List ℕ) (r : T (readable k bytes)) where
     shape : T (shaped k.number bytes)
@@ -129,13 +126,16 @@ module _ (k : Kind) (l : Lawful k) where
     unfolding shaped
     length-readable =
         eqb→eq (length bytes) (size_of k)
-        (subst (λ (b : BodyLength). T (is_long b (length bytes))) l.long
+        (subst (λ (b : Result ℕ Refusal). T (is_long b (length bytes))) l.long
         (and_r (eqb (get_or bytes 0 0) k.number) (is_long (body_by k.number) (length bytes)) shape))
 
-    pub figures-read : figures (read_as k bytes) ≡ line_of k bytes
+    -- what is read has the line as its figures
+    pub told-line : figures (k.said (line_of k bytes)) ≡ line_of k bytes
+    told-line = l.told (line_of k bytes) (length-line k bytes) (first_byte k bytes ∙ kind-first)
+
+    pub figures-read : read_figures (read_as k bytes) ≡ line_of k bytes
     unfolding read_as
-    figures-read = rw (is_true (readable k bytes) r)
-        (l.told (line_of k bytes) (length-line k bytes) (first_byte k bytes ∙ kind-first))
+    figures-read = rw (is_true (readable k bytes) r) told-line
 
     module _ (b : Bytes bytes) where
       pub written-line : written k (line_of k bytes) ≡ bytes
@@ -155,7 +155,8 @@ module _ (k : Kind) (l : Lawful k) where
           (both (fields_fit (widths k) (line_of k bytes)) (k.rules (line_of k bytes)) in_width kept)
 
       -- write of read is the bytes
-      pub written_read : T (writable k (figures (read_as k bytes))) × (written k (figures (read_as k bytes)) ≡ bytes)
+      pub written_read : T (writable k (read_figures (read_as k bytes)))
+          × (written k (read_figures (read_as k bytes)) ≡ bytes)
       written_read = rw figures-read (line-writable, written-line)
 
   -- read of write is the line
@@ -175,7 +176,7 @@ module _ (k : Kind) (l : Lawful k) where
   pub one_writing : (a b : List ℕ) → Bytes a → Bytes b → T (readable k a) → T (readable k b) → read_as k a ≡ read_as k b
       → a ≡ b
   one_writing a b p q r s e =
-      sym (written_read a r p).1 ∙ ap (λ (v : Said). written k (figures v)) e ∙ (written_read b s q).1
+      sym (written_read a r p).1 ∙ ap (λ (v : Result Said Refusal). written k (read_figures v)) e ∙ (written_read b s q).1
 
 -- what a line says, by its number: a kind's house and stamp judge a line, and do not change what it says
 kinds : List Kind
@@ -184,45 +185,45 @@ kinds =
     ∷ refusal_kind ∷ gossip_taken_kind ∷ open_kind ∷ send_kind ∷ []
 
 said_by : List Kind → List ℕ → Said
-said_by [] line = said.Unreadable 1
+said_by [] line = said.Send
 said_by (k ∷ ks) line = cond (eqb (get_or line 0 0) k.number) (k.said line) (said_by ks line)
 
--- so a value that has figures has them alone
-value-figures : (v : Said) → 0 < length (figures v) → said_by kinds (figures v) ≡ v
+-- so a value is settled by its figures
+value-figures : (v : Said) → said_by kinds (figures v) ≡ v
 unfolding kinds said_by head_kind record_kind tap_kind question_kind taken_kind already_kind verdict_kind wait_kind
     refusal_kind
     gossip_taken_kind open_kind send_kind parts_at list_of
-value-figures (said.Head sender screens count stamp) h = refl
-value-figures (said.Record origin number label tap) h = refl
-value-figures (said.Tap tap label) h = refl
-value-figures (said.Question prompt label) h = refl
-value-figures (said.Taken stamp) h = refl
-value-figures (said.Already stamp) h = refl
-value-figures (said.Verdict verdict showing accepts declines value) h = refl
-value-figures (said.Wait bits) h = refl
-value-figures (said.Refusal number) h = refl
-value-figures (said.GossipTaken new applied) h = refl
-value-figures (said.Open screen screens) h = refl
-value-figures said.Send h = refl
-value-figures (said.Unreadable number) h = absurd (omega arith)
+value-figures (said.Head sender screens count stamp) = refl
+value-figures (said.Record origin number label tap) = refl
+value-figures (said.Tap tap label) = refl
+value-figures (said.Question prompt label) = refl
+value-figures (said.Taken stamp) = refl
+value-figures (said.Already stamp) = refl
+value-figures (said.Verdict verdict showing accepts declines value) = refl
+value-figures (said.Wait bits) = refl
+value-figures (said.Refusal number) = refl
+value-figures (said.GossipTaken new applied) = refl
+value-figures (said.Open screen screens) = refl
+value-figures said.Send = refl
 
-same-figures : (v u : Said) → figures v ≡ figures u → 0 < length (figures u) → v ≡ u
-same-figures v u e h = sym (value-figures v (subst (λ (line : List ℕ). 0 < length line) (sym e) h))
-    ∙ ap (said_by kinds) e ∙ value-figures u h
+same-figures : (v u : Said) → figures v ≡ figures u → v ≡ u
+same-figures v u e = sym (value-figures v) ∙ ap (said_by kinds) e ∙ value-figures u
 
 module _ (k : Kind) (l : Lawful k) where
   -- read of write is the value
-  pub read-value : (v : Said) → T (writable k (figures v)) → read_as k (written k (figures v)) ≡ v
+  pub read-value : (v : Said) → T (writable k (figures v)) → read_as k (written k (figures v)) ≡ Ok v
+  unfolding read_as
   read-value v w =
-      same-figures (read_as k (written k (figures v))) v
-      (figures-read k l (written k (figures v)) (read-written k l (figures v) w).0 ∙ line-written k (figures v) w)
-      (omega (arith, fit_length (widths k) (figures v) (in-widths k (figures v) w)))
+      let bytes = written k (figures v) in
+      let r = read-written k l (figures v) w in
+      let e : figures (k.said (line_of k bytes)) ≡ figures v = told-line k l bytes r.0 ∙ r.1 in
+      rw (is_true (readable k bytes) r.0) (ap Ok (same-figures (k.said (line_of k bytes)) v e))
 
 -- what a writer answers and leaves
 module _ (k : Kind) (line out : List ℕ) where
   pub put_front_lem :
       T (writable k line) → size_of k ≤ length out
-      → ((write_as k line out).answer ≡ Wrote (size_of k))
+      → ((write_as k line out).answer ≡ Ok (size_of k))
       × (take (size_of k) (write_as k line out).bytes ≡ written k line)
       × (drop (size_of k) (write_as k line out).bytes ≡ drop (size_of k) out)
   unfolding write_as
@@ -235,32 +236,32 @@ module _ (k : Kind) (line out : List ℕ) where
 
   -- the output by the two tests
   outcome : Bool → Bool → Output
-  outcome p q = cond p (cond q (refuse 12 out)
-      (record { answer = Wrote (size_of k); bytes = written k line ++ drop (size_of k) out })) (refuse 1 out)
+  outcome p q = cond p (cond q (refuse Short out)
+      (record { answer = Ok (size_of k); bytes = written k line ++ drop (size_of k) out })) (refuse Bad out)
 
-  pub wrote : (m : ℕ) → (write_as k line out).answer ≡ Wrote m
+  pub wrote : (m : ℕ) → (write_as k line out).answer ≡ Ok m
       → T (writable k line) × (size_of k ≤ length out) × (m ≡ size_of k)
   unfolding write_as outcome
   wrote m = go (writable k line) (ltb (length out) (size_of k)) refl
     where
-      go : (p q : Bool) → ltb (length out) (size_of k) ≡ q → (outcome p q).answer ≡ Wrote m
+      go : (p q : Bool) → ltb (length out) (size_of k) ≡ q → (outcome p q).answer ≡ Ok m
           → T p × (size_of k ≤ length out) × (m ≡ size_of k)
       go true true t e = let z : ◌≡◌ {A = ℕ} 0 1 = cc in absurd (omega arith)
       go true false t e = (tt, ltb-false (length out) (size_of k) t, cc)
       go false q t e = let z : ◌≡◌ {A = ℕ} 0 1 = cc in absurd (omega arith)
 
-  pub refused-leaves : (r : ℕ) → (write_as k line out).answer ≡ Refused r → (write_as k line out).bytes ≡ out
+  pub refused-leaves : (r : Refusal) → (write_as k line out).answer ≡ Err r → (write_as k line out).bytes ≡ out
   unfolding write_as outcome
   refused-leaves r = go (writable k line) (ltb (length out) (size_of k))
     where
-      go : (p q : Bool) → (outcome p q).answer ≡ Refused r → (outcome p q).bytes ≡ out
+      go : (p q : Bool) → (outcome p q).answer ≡ Err r → (outcome p q).bytes ≡ out
       go true true e = refl
       go true false e = let z : ◌≡◌ {A = ℕ} 0 1 = cc in absurd (omega arith)
       go false q e = refl
 
 -- the front of the output reads as what was written there
 pub read-front : (k : Kind) → Lawful k → (v : Said) (out : List ℕ) → T (writable k (figures v)) → size_of k ≤ length out
-    → read_as k (take (size_of k) (write_as k (figures v) out).bytes) ≡ v
+    → read_as k (take (size_of k) (write_as k (figures v) out).bytes) ≡ Ok v
 read-front k l v out w h = ap (read_as k) (put_front_lem k (figures v) out w h).1 ∙ read-value k l v w
 
 -- two outcomes that a promise allows are one

@@ -1,18 +1,15 @@
 -- Laws: what a reader's and a writer's tests have settled where it returns, for every kind. Assumes nothing.
 use Rattle.std.specs.Prelude.{ℕ, suc, ◌+◌, ◌^◌, ◌≡◌, refl, Bool, true, false, not, ◌&&◌, List, [], ◌∷◌, T, ltb, eqb}
-use Rattle.std.specs.Prelude.{length, get_or}
+use Rattle.std.specs.Prelude.{length, get_or, Ok, Err}
 use Rattle.std.proofs.Common.{sym, ap, ◌∙◌, eq-eqb, eqb-true}
 use Rattle.std.proofs.Math.Bool.{and-true, and-false}
 use Rattle.std.proofs.lemmas.Bool.{not-true, not-false}
 use Rattle.lists.specs.TestLaws.{and_r}
 use Rattle.numbers.specs.Fields.{fields_fit, put_fields}
-use Rattle.wire.specs.declared.Said.TheVariants as said
-use Rattle.wire.specs.declared.Written.{Written}
-use Rattle.wire.specs.declared.Written.TheVariants.{Refused}
-use Rattle.wire.specs.declared.BodyLength.TheVariants.{Long}
+use Rattle.wire.specs.declared.Refusal.TheVariants.{Bad}
 use Rattle.wire.specs.Kinds.{Kind, widths, body_by, is_long, shaped}
 use Rattle.wire.specs.Read.{line_of, readable, read_as}
-use Rattle.wire.specs.Write.{Output, Meets, put_line, writable, written, write_as}
+use Rattle.wire.specs.Write.{Written, Output, Meets, put_line, writable, written, write_as}
 
 -- what a test of a call's answer tells of what the call promises
 pub failed : {answer t : Bool} → answer ≡ t → not answer ≡ true → t ≡ false
@@ -22,7 +19,7 @@ pub passed : {answer t : Bool} → answer ≡ t → not answer ≡ false → t �
 passed {answer} e h = sym e ∙ not-false answer h
 
 -- bytes of a kind have its length
-pub shaped-long : (k n : ℕ) (bytes : List ℕ) → body_by k ≡ Long n → shaped k bytes ≡ true → length bytes ≡ 1 + n
+pub shaped-long : (k n : ℕ) (bytes : List ℕ) → body_by k ≡ Ok n → shaped k bytes ≡ true → length bytes ≡ 1 + n
 unfolding shaped
 shaped-long k n bytes b e =
     eqb-true (length bytes) (1 + n)
@@ -41,17 +38,17 @@ fit_length (w ∷ ws) [] t = absurd t
 fit_length (w ∷ ws) (v ∷ vs) t = ap suc (fit_length ws vs (and_r (ltb v (256 ^ w)) (fields_fit ws vs) t))
 
 module _ (k : Kind) (bytes : List ℕ) where
-  pub not-shaped : shaped k.number bytes ≡ false → said.Unreadable 1 ≡ read_as k bytes
+  pub not-shaped : shaped k.number bytes ≡ false → Err Bad ≡ read_as k bytes
   unfolding read_as readable
   not-shaped e = rw e
 
   -- past the shape, with the line that was read
   module _ (line : List ℕ) (shape : shaped k.number bytes ≡ true) (same : line ≡ line_of k bytes) where
-    pub not-kept : k.rules line ≡ false → said.Unreadable 1 ≡ read_as k bytes
+    pub not-kept : k.rules line ≡ false → Err Bad ≡ read_as k bytes
     unfolding read_as readable
     not-kept r = rw (shape, ← same, r)
 
-    pub kept : k.rules line ≡ true → k.said line ≡ read_as k bytes
+    pub kept : k.rules line ≡ true → Ok (k.said line) ≡ read_as k bytes
     unfolding read_as readable
     kept r = rw (shape, ← same, r)
 
@@ -61,9 +58,9 @@ meets answer bytes e = record
     { answers = ap (λ (o : Output). o.answer) (sym e); leaves = ap (λ (o : Output). o.bytes) (sym e) }
 
 module _ (k : Kind) (line out : List ℕ) (numbered : get_or line 0 0 ≡ k.number) where
-  pub broken : k.rules line ≡ false → Meets (write_as k line out) (Refused 1) out
+  pub broken : k.rules line ≡ false → Meets (write_as k line out) (Err Bad) out
   unfolding write_as writable
-  broken e = meets (Refused 1) out
+  broken e = meets (Err Bad) out
       (rw (eq-eqb (get_or line 0 0) k.number numbered, e, and-false (fields_fit (widths k) line)))
 
   pub put : (answer : Written) (bytes : List ℕ) → k.rules line ≡ true

@@ -10,8 +10,8 @@ use lib.ListN.{length, get_or}
 use Rattle.lists.specs.TestLaws.{same_test}
 use Rattle.lists.proofs.ElementLaws.{eq→eqb}
 use Rattle.wire.specs.Kinds.{body_by, is_long, shaped}
-use Rattle.wire.specs.declared.BodyLength.{BodyLength}
-use Rattle.wire.specs.declared.BodyLength.TheVariants.{Long, Bad}
+use Rattle.std.specs.Prelude.{Result, Ok, Err}
+use Rattle.wire.specs.declared.Refusal.{Refusal}
 
 and-false : (a b : Bool) → b ≡ false → false ≡ (a && b)
 and-false true b e = sym e
@@ -25,15 +25,15 @@ module _ (k : ℕ) (bytes : List ℕ) where
   pub empty : length bytes ≡ 0 → false ≡ shaped k bytes
   empty e = not-long (rw e (zero-long (body_by k)))
     where
-      zero-long : (b : BodyLength) → is_long b 0 ≡ false
-      zero-long (Long n) = ne_eqb 0 (1 + n) (λ h. omega arith)
-      zero-long (Bad r) = refl
+      zero-long : (b : Result ℕ Refusal) → is_long b 0 ≡ false
+      zero-long (Ok n) = ne_eqb 0 (1 + n) (λ h. omega arith)
+      zero-long (Err r) = refl
 
   pub another : (get_or bytes 0 0 ≡ k → ⊥) → false ≡ shaped k bytes
   unfolding shaped
   another h = rw (ne_eqb (get_or bytes 0 0) k h)
 
-  pub settled : (n : ℕ) → 0 < length bytes → get_or bytes 0 0 ≡ k → body_by k ≡ Long n
+  pub settled : (n : ℕ) → 0 < length bytes → get_or bytes 0 0 ≡ k → body_by k ≡ Ok n
       → eqb (length bytes - 1) n ≡ shaped k bytes
   unfolding shaped
   settled n h e b =

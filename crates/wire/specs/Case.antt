@@ -11,8 +11,8 @@ use Rattle.tally.specs.Tap.{tap_fits}
 use Rattle.ledger.specs.Message.{in_range}
 use Rattle.ledger.specs.Record.{record_fits, is_known, knows}
 use Rattle.numbers.specs.Number.{bytes_of}
-use Rattle.wire.specs.declared.Said.{Said}
-use Rattle.wire.specs.declared.Said.TheVariants as said
+use Rattle.wire.specs.Says.{Said}
+use Rattle.wire.specs.Says as said
 use Rattle.wire.specs.Said.{figures}
 use Rattle.wire.specs.Kinds.{Kind, head_kind, record_kind, tap_kind, taken_kind, open_kind, send_kind}
 use Rattle.wire.specs.Write.{writable, written}

@@ -1,6 +1,6 @@
 -- The table of kinds: each kind's number, the widths of its fields, and its field rules. Assumes nothing.
 use Rattle.std.specs.Prelude.{ℕ, ◌+◌, ◌*◌, ◌/◌, Bool, true, false, ◌&&◌, ◌||◌, cond, List, [], ◌∷◌, ◌++◌, eqb, leb, ltb}
-use Rattle.std.specs.Prelude.{length, get_or, replicate}
+use Rattle.std.specs.Prelude.{length, get_or, replicate, Result, Ok, Err}
 use Rattle.limits.specs.KindNumbers.{head_number, record_number, tap_number, question_number, taken_number}
 use Rattle.limits.specs.KindNumbers.{already_number}
 use Rattle.limits.specs.KindNumbers.{verdict_number, wait_number, refusal_number, gossip_taken_number, open_number}
@@ -13,10 +13,10 @@ use Rattle.tally.specs.Body.{body_fits}
 use Rattle.tally.specs.Tap.{tap_fits, word_of}
 use Rattle.ledger.specs.Record.{Record, is_known, record_fits}
 use Rattle.ledger.specs.Message.{in_range}
-use Rattle.wire.specs.declared.Said.{Said}
-use Rattle.wire.specs.declared.Said.TheVariants as said
-use Rattle.wire.specs.declared.BodyLength.{BodyLength}
-use Rattle.wire.specs.declared.BodyLength.TheVariants.{Long, Bad}
+use Rattle.wire.specs.Says.{Said}
+use Rattle.wire.specs.Says as said
+use Rattle.wire.specs.declared.Refusal.{Refusal}
+use Rattle.wire.specs.declared.Refusal.TheVariants.{Bad}
 
 -- A kind of message. Its line is the kind and then the values of its fields: `rules` judges a line, `said` is what it
 -- says.
@@ -212,9 +212,9 @@ unfoldable pub send_kind : Kind
 send_kind = record { number = send_number; body = send_body; rules = λ l. true; said = λ l. said.Send }
 
 -- the kind fixes the body's length
-abbrev pub lookup : ℕ → List (ℕ × ℕ) → BodyLength
-lookup k [] = Bad 1
-lookup k (l ∷ t) = cond (eqb k l.0) (Long l.1) (lookup k t)
+abbrev pub lookup : ℕ → List (ℕ × ℕ) → Result ℕ Refusal
+lookup k [] = Err Bad
+lookup k (l ∷ t) = cond (eqb k l.0) (Ok l.1) (lookup k t)
 
 abbrev pub bodies : List (ℕ × ℕ)
 bodies =
@@ -232,13 +232,13 @@ bodies =
     ∷ (send_number, total send_body)
     ∷ []
 
-unfoldable pub body_by : ℕ → BodyLength
+unfoldable pub body_by : ℕ → Result ℕ Refusal
 body_by k = lookup k bodies
 
 -- how long a message of the kind is, its byte of kind too; 1 where there is no such kind
-abbrev pub body_long : BodyLength → ℕ
-body_long (Long n) = n
-body_long (Bad r) = 0
+abbrev pub body_long : Result ℕ Refusal → ℕ
+body_long (Ok n) = n
+body_long (Err r) = 0
 
 abbrev pub message_long : ℕ → ℕ
 message_long k = 1 + body_long (lookup k bodies)
@@ -255,9 +255,9 @@ abbrev pub longest : ℕ
 longest = head_long + log_room * record_long
 
 -- the bytes are of this kind and of its length
-abbrev pub is_long : BodyLength → ℕ → Bool
-is_long (Long n) long = eqb long (1 + n)
-is_long (Bad r) long = false
+abbrev pub is_long : Result ℕ Refusal → ℕ → Bool
+is_long (Ok n) long = eqb long (1 + n)
+is_long (Err r) long = false
 
 unfoldable pub shaped : ℕ → List ℕ → Bool
 shaped k bytes = eqb (get_or bytes 0 0) k && is_long (body_by k) (length bytes)

@@ -1,3 +1,5 @@
+pub mod Says
+pub mod Refusal
 pub mod Said
 pub mod Requests
 pub mod Kinds

@@ -1,17 +1,14 @@
 -- What a message says: the number of its kind, and its values in order. Assumes nothing.
-use Rattle.std.specs.Prelude.{ℕ, List, [], ◌∷◌, ◌++◌}
+use Rattle.std.specs.Prelude.{ℕ, List, [], ◌∷◌, ◌++◌, Result, Ok, Err}
 use Rattle.limits.specs.KindNumbers.{head_number, record_number, tap_number, question_number, taken_number}
 use Rattle.limits.specs.KindNumbers.{already_number}
 use Rattle.limits.specs.KindNumbers.{verdict_number, wait_number, refusal_number, gossip_taken_number, open_number}
 use Rattle.limits.specs.KindNumbers.{send_number}
 use Rattle.stamp.specs.Parts.{list_of}
 use Rattle.tally.specs.Tap.{fields}
-use Rattle.wire.specs.declared.Said.{Said}
-use Rattle.wire.specs.declared.Said.TheVariants as said
-
--- how many cases there are: one for each kind, and last the one that is no message
-abbrev pub said_cases : ℕ
-said_cases = 13
+use Rattle.wire.specs.declared.Refusal.{Refusal}
+use Rattle.wire.specs.Says.{Said}
+use Rattle.wire.specs.Says as said
 
 -- the kind's number, then the values of its fields
 abbrev pub figures : Said → List ℕ
@@ -28,5 +25,8 @@ figures (said.Refusal number) = refusal_number ∷ number ∷ []
 figures (said.GossipTaken new applied) = gossip_taken_number ∷ new ∷ applied ∷ []
 figures (said.Open screen screens) = open_number ∷ screen ∷ screens ∷ []
 figures said.Send = send_number ∷ []
--- no message
-figures (said.Unreadable number) = []
+
+-- the figures of what was read; none where the bytes are refused
+abbrev pub read_figures : Result Said Refusal → List ℕ
+read_figures (Ok v) = figures v
+read_figures (Err r) = []

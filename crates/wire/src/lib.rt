@@ -4,6 +4,7 @@
 ghost use Rattle.std.specs.Prelude.{◌≡◌};
 ghost use Rattle.stamp.specs.Stamp.{total};
 ghost use Rattle.wire.specs.Kinds.{body_by, shaped};
+ghost use Rattle.wire.specs.Refusal.{table_number};
 ghost use Rattle.wire.specs.Requests.{reply_room};
 ghost use Rattle.wire.specs.Write.{Meets, put_line};
 
@@ -12,64 +13,96 @@ use numbers::{fields_fit, put_fields};
 use stamp::Parts;
 use tally::Tap;
 
-// What a message says, in the order of the kinds; or that the bytes are refused.
+// The head of a gossip message: the sender's number, its N, how many records follow, and its known stamp.
 #[derive(Clone, Copy)]
-pub enum Said {
-    Head {
-        sender: u64,
-        screens: u64,
-        count: u64,
-        stamp: Parts,
-    },
-    Record {
-        origin: u64,
-        number: u64,
-        label: Parts,
-        tap: Tap,
-    },
-    Tap {
-        tap: Tap,
-        label: Parts,
-    },
-    Question {
-        prompt: u64,
-        label: Parts,
-    },
-    Taken(Parts),
-    Already(Parts),
-    Verdict {
-        verdict: u64,
-        showing: u64,
-        accepts: u64,
-        declines: u64,
-        value: Parts,
-    },
-    Wait(u64),
-    Refusal(u64),
-    GossipTaken {
-        new: u64,
-        applied: u64,
-    },
-    Open {
-        screen: u64,
-        screens: u64,
-    },
-    Send,
-    Unreadable(u64),
+pub struct Head {
+    pub sender: u64,
+    pub screens: u64,
+    pub count: u64,
+    pub stamp: Parts,
 }
 
-// How many bytes were written, or the refusal's number.
+// A record, its body being a tap.
 #[derive(Clone, Copy)]
-pub enum Written {
-    Wrote(usize),
-    Refused(u64),
+pub struct Record {
+    pub origin: u64,
+    pub number: u64,
+    pub label: Parts,
+    pub tap: Tap,
 }
 
-// How long a kind's body is, or that there is no such kind.
+// A tap, made at a label.
 #[derive(Clone, Copy)]
-pub enum BodyLength {
-    Long(usize),
-    Bad(u64),
+pub struct TapRequest {
+    pub tap: Tap,
+    pub label: Parts,
+}
+
+// A question on a prompt, at a label.
+#[derive(Clone, Copy)]
+pub struct Question {
+    pub prompt: u64,
+    pub label: Parts,
+}
+
+// The answer to a question.
+#[derive(Clone, Copy)]
+pub struct Verdict {
+    pub verdict: u64,
+    pub showing: u64,
+    pub accepts: u64,
+    pub declines: u64,
+    pub value: Parts,
+}
+
+// How many records of a gossip were new, and how many became applied.
+#[derive(Clone, Copy)]
+pub struct GossipTaken {
+    pub new: u64,
+    pub applied: u64,
+}
+
+// Which screen a book is opened for, and how many the house has.
+#[derive(Clone, Copy)]
+pub struct Open {
+    pub screen: u64,
+    pub screens: u64,
+}
+
+// Why a request is refused, by its number in document 01's table: ten is not used.
+#[derive(Clone, Copy, Debug, PartialEq, Eq)]
+pub enum Refusal {
+    // No message of the kind, or a broken field rule.
+    Bad = 1,
+    // N is not 2 to 8, or the screen's number not below it; gossip of another N, or from the screen itself.
+    WrongHouse = 2,
+    // The label's part i exceeds the known stamp's.
+    UnknownLabel = 3,
+    // Gossip whose stamp the sender's row covers.
+    Old = 4,
+    // Gossip whose stamp does not cover the sender's row.
+    Crossed = 5,
+    // Gossip that knows more of the screen's own records than it has made.
+    Ahead = 6,
+    // The book would know more records than it may.
+    Spent = 7,
+    // A record that the message's stamp tells of is missing.
+    Gap = 8,
+    // The log has no room for the new records.
+    NoRoom = 9,
+    // The lent book is unsound or of wrong length.
+    Unsound = 11,
+    // The output is too short.
+    Short = 12,
+}
+
+impl Refusal {
+    // Its number in the table.
+    pub fn number(self) -> u64
+        ensures { result ≡ table_number self }
+    {
+        self as u64
+    }
 }
 
 // The bytes of a stamp's part, and of a bit for each part.
@@ -141,29 +174,24 @@ pub const RECORD_SIZE: usize = KIND_SIZE + RECORD_BODY;
 
 pub const LONGEST: usize = HEAD_SIZE + LOG_ROOM as usize * RECORD_SIZE;
 
-// The two refusals of readers and writers: no message of the kind, or a broken field rule; the output is too short.
-pub const BAD: u64 = 1;
-
-pub const SHORT: u64 = 12;
-
 // The body's length that the kind fixes.
-pub fn body_of(kind: u8) -> BodyLength
+pub fn body_of(kind: u8) -> Result<usize, Refusal>
     ensures { result ≡ body_by kind }
 {
     match kind {
-        HEAD => BodyLength::Long(HEAD_BODY),
-        RECORD => BodyLength::Long(RECORD_BODY),
-        TAP => BodyLength::Long(TAP_BODY),
-        QUESTION => BodyLength::Long(QUESTION_BODY),
-        TAKEN => BodyLength::Long(TAKEN_BODY),
-        ALREADY => BodyLength::Long(ALREADY_BODY),
-        VERDICT => BodyLength::Long(VERDICT_BODY),
-        WAIT => BodyLength::Long(WAIT_BODY),
-        REFUSAL => BodyLength::Long(REFUSAL_BODY),
-        GOSSIP_TAKEN => BodyLength::Long(GOSSIP_TAKEN_BODY),
-        OPEN => BodyLength::Long(OPEN_BODY),
-        SEND => BodyLength::Long(SEND_BODY),
-        _ => BodyLength::Bad(BAD),
+        HEAD => Ok(HEAD_BODY),
+        RECORD => Ok(RECORD_BODY),
+        TAP => Ok(TAP_BODY),
+        QUESTION => Ok(QUESTION_BODY),
+        TAKEN => Ok(TAKEN_BODY),
+        ALREADY => Ok(ALREADY_BODY),
+        VERDICT => Ok(VERDICT_BODY),
+        WAIT => Ok(WAIT_BODY),
+        REFUSAL => Ok(REFUSAL_BODY),
+        GOSSIP_TAKEN => Ok(GOSSIP_TAKEN_BODY),
+        OPEN => Ok(OPEN_BODY),
+        SEND => Ok(SEND_BODY),
+        _ => Err(Refusal::Bad),
     }
 }
 
@@ -199,7 +227,7 @@ pub fn is_kind(msg: &[u8], kind: u8) -> bool
         return false;
     }
     let body = body_of(kind);
-    let BodyLength::Long(long) = body else {
+    let Ok(long) = body else {
         return false;
     };
     msg.len() - 1 == long
@@ -207,16 +235,16 @@ pub fn is_kind(msg: &[u8], kind: u8) -> bool
 
 // The row of numbers at the front of out: refused with 1 where one does not fit its width, then with 12 where out is
 // too short.
-pub fn put_line(ws: &[usize], long: usize, line: &[u64], out: &mut [u8]) -> Written
+pub fn put_line(ws: &[usize], long: usize, line: &[u64], out: &mut [u8]) -> Result<usize, Refusal>
     requires { total ws.now ≡ long }
     ensures { Meets (put_line ws.now line.now out.old) result out.new }
 {
     if !fields_fit(ws, line) {
-        return Written::Refused(BAD);
+        return Err(Refusal::Bad);
     }
     if out.len() < long {
-        return Written::Refused(SHORT);
+        return Err(Refusal::Short);
     }
     put_fields(out, ws, line);
-    Written::Wrote(long)
+    Ok(long)
 }

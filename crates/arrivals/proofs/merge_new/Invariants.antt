@@ -1,4 +1,5 @@
--- `arrivals::merge_new` meets its contract. Assumes nothing.
+-- `arrivals::merge_new` meets its contract. The invariant: of the new records those of the first k are still to come.
+-- Assumes nothing.
 use Prim.Native.Nat.{◌≤◌}
 use mathlib.Core.Path.{◌≡◌}
 use lib.ListN.{length, take}
@@ -8,11 +9,10 @@ use Rattle.message.specs.Message.{records_in}
 use Rattle.arrivals.proofs.merge_new.Given as goal
 
 abbrev pub invariant-loop-k : goal.invariant-loop-k
-invariant-loop-k l =
-    (l.k ≤ l.count) × (length l.r ≡ length l.initial.r)
-    × Merging (unknowns l.known (records_in l.msg)) l.logged l.new l.initial.r
-    (unknowns l.known (take l.k (records_in l.msg))) l.i l.gap l.r
-    × (l.gap ≡ length (unknowns l.known (take l.k (records_in l.msg)))) × (l.gap ≤ l.new) × (l.i ≤ l.logged)
-
-abbrev pub decreases-loop-k : goal.decreases-loop-k
-decreases-loop-k l = l.k
+invariant-loop-k l = record {
+  merging : Merging (unknowns l.known (records_in l.msg)) l.logged l.new l.initial.r
+      (unknowns l.known (take l.k (records_in l.msg))) l.i l.gap l.r;
+  left : l.gap ≡ length (unknowns l.known (take l.k (records_in l.msg)));
+  fewer : l.gap ≤ l.new;
+  within : l.i ≤ l.logged;
+}

@@ -1,5 +1,6 @@
--- `arrivals::survey` meets its contract. Assumes nothing.
-use Prim.Native.Nat.{◌+◌, ◌-◌, ◌≤◌}
+-- `arrivals::survey` meets its contract: what is counted and reached, and the records to come, give the whole. Assumes
+-- nothing.
+use Prim.Native.Nat.{◌+◌, ◌≤◌}
 use mathlib.Core.Path.{◌≡◌}
 use lib.ListN.{length, drop}
 use Rattle.ledger.specs.Log.{unknowns}
@@ -9,9 +10,5 @@ use Rattle.arrivals.proofs.survey.Given as goal
 
 abbrev pub invariant-loop-i : goal.invariant-loop-i
 invariant-loop-i l =
-    (l.i ≤ l.count) × (l.new ≤ l.i) × (length l.reached ≡ length l.initial.reached)
-    × (climb l.initial.reached (records_in l.msg) ≡ climb l.reached (drop l.i (records_in l.msg)))
+    (l.new ≤ l.i) × (climb l.initial.reached (records_in l.msg) ≡ climb l.reached (drop l.i (records_in l.msg)))
     × (length (unknowns l.known (records_in l.msg)) ≡ l.new + length (unknowns l.known (drop l.i (records_in l.msg))))
-
-abbrev pub decreases-loop-i : goal.decreases-loop-i
-decreases-loop-i l = l.count - l.i

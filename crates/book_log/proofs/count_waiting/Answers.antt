@@ -1,25 +1,17 @@
 -- `book_log::count_waiting` meets its contract. Assumes nothing.
-use Prim.Native.Nat.{◌<◌}
-use native.Mathlib.Omega.{arith}
-use mathlib.Core.Path.{refl, sym, ap, ◌∙◌}
-use Rattle.lists.specs.TestLaws.{bit}
-use Rattle.book_log.specs.Walk.{records-all}
-use Rattle.book_log.proofs.Turn.{waiting-more, waiting-end}
+use Rattle.std.proofs.Common.{rules, ◌≡◌, count_by}
+use Rattle.std.proofs.iter.runs.Made.{chains}
+use Rattle.std.proofs.lemmas.List.Sums.{count_by-le-length}
+use Rattle.ledger.specs.Log.{waiting_in}
+use Rattle.ledger.specs.Record.{is_waiting}
+use Rattle.book_log.specs.Region.{record_at}
+use Rattle.book_log.proofs.Rows.{count_rows}
 use Rattle.book_log.proofs.count_waiting.Goals as goal
 
-pub loop-i-init : goal.loop-i-init
-loop-i-init c = (omega arith, refl, omega arith, rw (← records-all _ _) (omega arith))
-
-pub loop-i-preserved : goal.loop-i-preserved
-loop-i-preserved c =
-    let s = c.args in
-    let b = c.one_if-n.ensures.0 ∙ ap bit c.is_waiting.ensures in
-    let h : c.loop-i.i < s.count = omega arith in
-    let more = waiting-more s.count s.r.now c.loop-i.i c.loop-i.at h s.known.now s.ready.now in
-    (omega arith, omega arith, omega arith, c.loop-i.invariant.3 ∙ more c.loop-i.n c.one_if-n.result b)
-
 pub returns : goal.returns
+unfolding waiting_in
 returns c =
     let s = c.args in
-    let end = waiting-end s.count s.r.now c.loop-i.i c.loop-i.at c.loop-i-test.false s.known.now in
-    (sym (c.loop-i.invariant.3 ∙ end s.ready.now c.loop-i.n), omega arith)
+    let n : c.count.result
+    ≡ count_by (λ r. is_waiting s.known.now s.ready.now (record_at r)) s.rows.now = search (rules, chains) in
+    (rw (count_rows (is_waiting s.known.now s.ready.now) s.rows.now) n, rw n (count_by-le-length _ s.rows.now))

@@ -17,15 +17,7 @@ pub drop_at-n-requires : goal.drop_at-n-requires
 unfolding from size
 drop_at-n-requires c =
     let ws = c.args.b.now in
-    record {
-      a_le_e = (
-        omega arith,
-        omega (arith, piece-within ws c.requires.held Log),
-        omega
-            (arith, c.logged_of-count.ensures.1),
-      );
-      s_len = c.ready_of-ready.ensures.1;
-    }
+    (omega arith, omega (arith, piece-within ws c.requires.held Log), omega (arith, c.logged_of-count.ensures.1))
 
 pub set_logged-requires : goal.set_logged-requires
 set_logged-requires c =
@@ -43,5 +35,5 @@ returns c =
     c.set_logged.ensures
     ∙ ap (λ (l : List ℕ). set l (from Logged) kept) c.drop_at-n.ensures.b_after
     ∙ ap (λ (k : ℕ). set (patch (from Log) (size Log) ws (dropped ready low k (piece Log ws))) (from Logged) kept) count
-    ∙ log-dropped ws c.requires.held c.requires.b_bound ready low kept c.ready_of-ready.ensures.0 c.low_of-low.ensures.0
+    ∙ log-dropped ws c.requires.held c.requires.b_bound ready low kept c.ready_of-ready.ensures.0 c.low_of-low.ensures
     (c.drop_at-n.ensures.value ∙ ap (λ (k : ℕ). length (stayers ready low (records_at k (piece Log ws)))) count)

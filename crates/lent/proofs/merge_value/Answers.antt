@@ -9,9 +9,9 @@ use Rattle.lent.proofs.merge_value.Goals as goal
 pub merge_at-requires : goal.merge_at-requires
 unfolding from size
 merge_at-requires c =
-    omega (arith, piece-within c.args.b.now c.requires.held Value, c.requires.s_len)
+    omega (arith, piece-within c.args.b.now c.requires Value)
 
 pub returns : goal.returns
 unfolding from size
 returns c =
-    c.merge_at.ensures ∙ value-merged c.args.b.now c.requires.held c.args.s.now
+    c.merge_at.ensures ∙ value-merged c.args.b.now c.requires c.args.s.now

@@ -21,7 +21,7 @@ put_at-requires c =
     let w = piece-within ws c.requires.held Log in
     let r = ap (λ (k : ℕ). records_at k (piece Log ws)) e ∙ log_is ws c.requires.held in
     record {
-      a_le_e = (omega arith, omega (arith, w), omega (arith, e, c.requires.b_len_bound), c.requires.row_len);
+      a_le_e = (omega arith, omega (arith, w), omega (arith, e, c.requires.b_len_bound));
       fresh = subst (Fresh (record_at c.args.row.now ∷ [])) (sym r) c.requires.fresh;
     }
 

@@ -17,13 +17,13 @@ pub loop-i-preserved : goal.loop-i-preserved
 loop-i-preserved c =
     rw c.move_row.ensures
     (closing-on c.loop-i.invariant c.loop-i-test.true
-    c.requires.0 (sym c.goes_at.ensures ∙ c.if-goes_at.false))
+    c.requires (sym c.goes_at.ensures ∙ c.if-goes_at.false))
 
 pub returns : goal.returns
 returns c =
     let e : c.args.count ≡ c.loop-i.i = omega arith in
     record {
-      words = closing_end c.loop-i.invariant e _ c.requires.0 c.clear.ensures;
+      words = closing_end c.loop-i.invariant e _ c.requires c.clear.ensures;
       count = kept-length c.loop-i.invariant e;
       fewer = omega arith;
     }

@@ -6,5 +6,5 @@ use Rattle.log_edit.proofs.put_one.Goals as goal
 pub returns : goal.returns
 returns c =
     merging-end (merging-turn (merging_start _ c.args.count 1 c.args.r.now c.requires.fresh)
-    c.requires.row_long_in_bounds.1
+    c.told-row
     c.slide_in.ensures) (omega arith)

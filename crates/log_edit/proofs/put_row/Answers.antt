@@ -11,4 +11,4 @@ unfolding patch
 returns c =
     let at = c.args.i * row_long in
     let e : at + row_long - at ≡ row_long = omega arith in
-    rw (c.copy.ensures, e)
+    rw (c.copy_from_slice.ensures.after, e)

@@ -5,4 +5,4 @@ use Rattle.log_edit.proofs.slide_in.Goals as goal
 pub returns : goal.returns
 returns c =
     slid c.args.i c.args.gap c.staying-n.result c.args.row.now c.args.r.now _ _
-    c.requires.le_gap.0 c.requires.le_gap.1 c.requires.le_gap.2 c.staying-n.ensures c.shift_up.ensures c.put_row.ensures
+    c.requires.le_gap.0 c.requires.le_gap.1 c.told-row c.staying-n.ensures c.shift_up.ensures c.put_row.ensures

@@ -5,6 +5,3 @@ use Rattle.log_edit.proofs.staying.Given as goal
 
 abbrev pub invariant-loop-n : goal.invariant-loop-n
 invariant-loop-n l = Behind l.row l.r l.i l.n
-
-abbrev pub decreases-loop-n : goal.decreases-loop-n
-decreases-loop-n l = l.n

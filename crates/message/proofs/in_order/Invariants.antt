@@ -1,5 +1,4 @@
 -- `message::in_order` meets its contract. Assumes nothing.
-use Prim.Native.Nat.{◌-◌, ◌≤◌}
 use mathlib.Core.List.{[], ◌∷◌}
 use mathlib.Core.Path.{◌≡◌}
 use lib.ListN.{drop}
@@ -11,8 +10,5 @@ use Rattle.message.proofs.in_order.Given as goal
 
 abbrev pub invariant-loop-i : goal.invariant-loop-i
 invariant-loop-i l =
-    (l.i ≤ l.count) × (in_order (record_kind l.n (list_of l.m)) (parts_of l.count l.msg)
-    ≡ rises_from (record_kind l.n (list_of l.m)) (l.k ∷ l.q ∷ []) (drop l.i (parts_of l.count l.msg)))
-
-abbrev pub decreases-loop-i : goal.decreases-loop-i
-decreases-loop-i l = l.count - l.i
+    in_order (record_kind l.n (list_of l.m)) (parts_of l.count l.msg)
+    ≡ rises_from (record_kind l.n (list_of l.m)) (l.last.0 ∷ l.last.1 ∷ []) (drop l.i (parts_of l.count l.msg))

@@ -1,31 +1,16 @@
--- `numbers::fields_fit` meets its contract: the fields from i on decide. Assumes nothing.
-use mathlib.Core.Path.{sym, ◌∙◌}
-use native.Mathlib.Omega.{arith}
-use borrow.Author.Tests.{not-true, not-false}
-use Rattle.numbers.proofs.Turn.{fit-more, fit-end, fit-short}
+-- `numbers::fields_fit` meets its contract. Assumes nothing.
+use Rattle.std.proofs.Common.{rules, ◌^◌, ltb, ℕ, ◌∙◌}
+use Rattle.std.proofs.lemmas.Iterator.{YieldsList-from_slice, YieldsList-from_zip}
+use Rattle.std.proofs.lemmas.Iterator.Search.{all_from_yields_List}
+use Rattle.numbers.proofs.Turn.{fit_zip}
 use Rattle.numbers.proofs.fields_fit.Goals as goal
 
 pub returns-then-ws-v : goal.returns-then-ws-v
-returns-then-ws-v c = let s = c.args in sym (fit-short s.ws.now s.v.now c.if-ws-v.true)
-
-pub returns-then-not-fits_width : goal.returns-then-not-fits_width
-returns-then-not-fits_width c =
-    let l = c.loop-i in
-    let s = c.args in
-    sym (l.invariant.1 ∙ fit-more s.ws.now l.i (omega arith) s.v.now (omega arith)
-    ∙ rw (sym c.fits_width.ensures ∙ not-true _ c.if-not-fits_width.true-raw))
-
-pub loop-i-preserved : goal.loop-i-preserved
-loop-i-preserved c =
-    let l = c.loop-i in
-    let s = c.args in (
-      omega arith,
-      l.invariant.1 ∙ fit-more s.ws.now l.i (omega arith) s.v.now (omega arith)
-          ∙ rw (sym c.fits_width.ensures ∙ not-false _ c.if-not-fits_width.false-raw),
-    )
-
-pub returns : goal.returns
-returns c =
-    let l = c.loop-i in
-    let s = c.args in
-    sym (l.invariant.1 ∙ fit-end s.ws.now s.v.now l.i c.loop-i-test.false (omega arith))
+returns-then-ws-v c =
+    let ws = c.args.ws.now in
+    let v = c.args.v.now in
+    all_from_yields_List (λ (p : ℕ × ℕ). ltb p.1 (256 ^ p.0)) c.all.new.self _ _ c.all.ensures.ran
+    (YieldsList-from_zip (YieldsList-from_slice ws (search rules))
+    (YieldsList-from_slice v (search rules)))
+    (λ x b q k. search rules)
+    ∙ fit_zip ws v c.if-ws-v.true

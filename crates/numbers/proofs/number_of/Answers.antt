@@ -8,30 +8,21 @@ use Rattle.numbers.proofs.Step.{number_more, number_grows, number_fits}
 use Rattle.numbers.proofs.number_of.Goals as goal
 
 pub overflow_mul-n : goal.overflow_mul-n
-overflow_mul-n c = omega (
-  arith,
-  number_fits c.loop-i.i c.loop-i.n 0 c.loop-i.invariant.1 (lit< tt)
-      (omega arith),
-)
+overflow_mul-n c =
+    let l = c.loop-x in
+    omega (arith, number_fits l.x-index l.n 0 l.invariant.0 (lit< tt) (omega arith))
 
-pub overflow_add-n : goal.overflow_add-n
-overflow_add-n c =
-    rw c.wide.ensures (omega (
-      arith,
-      number_fits c.loop-i.i c.loop-i.n _ c.loop-i.invariant.1
-          (c.shared_slice_known-in-loop-i-1.given c.loop-i.i).fits (omega arith),
-    ))
-
-pub loop-i-preserved : goal.loop-i-preserved
-loop-i-preserved c =
-    rw c.wide.ensures (
-      omega arith,
-      number_grows c.loop-i.i _ _ c.loop-i.invariant.1 (c.shared_slice_known-in-loop-i-1.given c.loop-i.i).fits,
-      c.loop-i.invariant.2 ∙ number_more _ c.loop-i.i _ (omega arith),
+pub loop-x-preserved : goal.loop-x-preserved
+loop-x-preserved c =
+    let l = c.loop-x in
+    rw c.from.ensures (
+      number_grows l.x-index _ _ l.invariant.0 (omega arith),
+      l.invariant.1 ∙ number_more _ l.x-index _ (omega arith),
     )
 
 pub returns : goal.returns
 unfolding number_from
 returns c =
-    let e : c.loop-i.i ≡ length c.args.s.now = omega arith in
-    (sym (c.loop-i.invariant.2 ∙ rw (drop_of_length-le _ c.loop-i-test.false)), rw e at c.loop-i.invariant.1)
+    let l = c.loop-x in
+    let e : l.x-index ≡ length c.args.s.now = omega arith in
+    (sym (l.invariant.1 ∙ rw (drop_of_length-le _ c.loop-x-test.false)), rw e at l.invariant.0)

@@ -1,6 +1,5 @@
 -- `numbers::put_number` meets its contract. The invariant, from the back: the bytes still to write, and what is
 -- written. Assumes nothing.
-use Prim.Native.Nat.{◌≤◌}
 use mathlib.Core.Path.{◌≡◌}
 use mathlib.Core.List.{◌++◌}
 use lib.ListN.{length, drop}
@@ -8,8 +7,4 @@ use Rattle.numbers.specs.Number.{bytes_of}
 use Rattle.numbers.proofs.put_number.Given as goal
 
 abbrev pub invariant-loop-i : goal.invariant-loop-i
-invariant-loop-i l = (l.i ≤ length l.s) × (length l.s ≡ length l.initial.s)
-    × (bytes_of (length l.initial.s) l.n ≡ bytes_of l.i l.m ++ drop l.i l.s)
-
-abbrev pub decreases-loop-i : goal.decreases-loop-i
-decreases-loop-i l = l.i
+invariant-loop-i l = bytes_of (length l.initial.s) l.n ≡ bytes_of l.i l.m ++ drop l.i l.s

@@ -2,18 +2,13 @@
 -- Assumes nothing.
 use mathlib.Core.Path.{◌≡◌}
 use mathlib.Core.List.{◌++◌}
-use Prim.Native.Nat.{◌+◌, ◌-◌, ◌≤◌}
+use Prim.Native.Nat.{◌+◌, ◌≤◌}
 use lib.ListN.{length, take, drop}
 use Rattle.stamp.specs.Stamp.{total}
 use Rattle.numbers.specs.Fields.{read_fields}
-use Rattle.numbers.proofs.Turn.{Narrow}
 use Rattle.numbers.proofs.read_fields.Given as goal
 
 abbrev pub invariant-loop-i : goal.invariant-loop-i
 invariant-loop-i l =
-    (l.i ≤ length l.ws) × (length l.v ≡ length l.ws) × (l.at + total (drop l.i l.ws) ≤ length l.bytes)
-    × Narrow (drop l.i l.ws)
+    (l.at + total (drop l.i l.ws) ≤ length l.bytes)
     × (read_fields l.ws l.bytes ≡ take l.i l.v ++ read_fields (drop l.i l.ws) (drop l.at l.bytes))
-
-abbrev pub decreases-loop-i : goal.decreases-loop-i
-decreases-loop-i l = length l.ws - l.i

@@ -1,7 +1,8 @@
 -- `replies::read_taken` meets its contract. Assumes nothing.
-use Rattle.wire.specs.declared.Said.TheVariants as said
+use Rattle.wire.specs.Says as said
 use mathlib.Core.Path.{◌≡◌, refl, ap, ◌∙◌}
 use mathlib.Core.Bool.{true}
+use Rattle.std.specs.Prelude.{Ok}
 use native.Mathlib.Omega.{arith}
 use Rattle.stamp.specs.Stamp.{total}
 use Rattle.limits.specs.KindNumbers.{taken_number}
@@ -32,5 +33,5 @@ unfolding taken_kind line_of
 returns c =
     let shape : shaped taken_number c.args.msg.now ≡ true =
     passed c.is_kind.ensures c.if-not-is_kind.false-raw in
-    ap said.Taken c.parts_at.ensures
+    ap (λ s. Ok (said.Taken s)) c.parts_at.ensures
     ∙ kept taken_kind _ _ (shape) (rw c.stamp_widths-ws.ensures at c.read_fields.ensures) refl

@@ -17,7 +17,7 @@ pub put_row-requires-clause-t : goal.put_row-requires-clause-t
 put_row-requires-clause-t c =
     let w = c.args in
     row-writable w.b.now c.requires.t w.m c.requires.m_value w.i c.requires.i_in_bounds.0
-    c.log_row-row.result c.log_row-row.ensures.0 _ c.screens_of.ensures.0
+    c.log_row-row.result c.log_row-row.ensures _ c.screens_of.ensures.0
 
 pub returns : goal.returns
 unfolding patch
@@ -27,4 +27,4 @@ returns c =
     let long : start_at i + record_long - start_at i ≡ record_long = omega arith in
     ap₂ (λ (j : ℕ) (ys : List ℕ). patch (start_at i) j w.out.now ys) long
     (c.put_row.ensures ∙ row-bytes w.b.now c.requires.t w.m c.requires.m_value i c.requires.i_in_bounds.0 c.log_row-row.result
-    c.log_row-row.ensures.0 _ c.screens_of.ensures.0)
+    c.log_row-row.ensures _ c.screens_of.ensures.0)

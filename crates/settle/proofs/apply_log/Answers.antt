@@ -3,11 +3,12 @@ use Prim.Native.Nat.{ℕ, ◌+◌, ◌-◌, ◌<◌}
 use native.Mathlib.Omega.{arith}
 use mathlib.Core.Path.{◌≡◌, refl, ap, subst, ◌∙◌}
 use lib.ListN.{length, get_or, drop}
-use Rattle.lists.specs.TestLaws.{bit}
+use Rattle.lists.specs.TestLaws.{bit, bit_le}
 use Rattle.ledger.specs.Log.{newly_applied}
 use Rattle.limits.specs.LimitLaws.{log_small}
 use Rattle.lent.specs.Rows.{no_record}
 use Rattle.lent.specs.Words.{book_of, words_of}
+use Rattle.book_log.proofs.Rows.{byte_bit}
 use Rattle.settle.specs.Moves.{is_newly_applied}
 use Rattle.settle.specs.Ready.{applied_from}
 use Rattle.settle.proofs.Turn.{log_start, turn-held, turn_in, turn_applicable, turn-words, turn-newly, log-end}
@@ -33,13 +34,13 @@ apply_row-requires c =
     record {
       held = turn-held w.before.now w.s.now w.b.now h y c.loop-i.b (i - 1) lt e;
       i_in_bounds = turn_in w.before.now w.s.now w.b.now h y c.loop-i.b (i - 1) lt e;
-      before_len = search rules;
       applicable = turn_applicable w.before.now w.s.now w.b.now h y c.loop-i.b (i - 1) lt e;
     }
 
 pub overflow_add-n : goal.overflow_add-n
 overflow_add-n c =
-    record { fits = omega (arith, c.loop-i.invariant.4, c.one_if-n.ensures.1, log_small) }
+    let one = c.from-n.ensures ∙ byte_bit c.apply_row.result in
+    record { fits = omega (arith, c.loop-i.invariant.4, one, bit_le c.apply_row.result, log_small) }
 
 pub loop-i-preserved : goal.loop-i-preserved
 loop-i-preserved c =
@@ -54,15 +55,16 @@ loop-i-preserved c =
     c.loop-i.invariant.3 in
     let h = c.requires.held in
     let y = c.requires.appliable in
-    let one : c.one_if-n.result
+    let few = c.from-n.ensures ∙ byte_bit c.apply_row.result in
+    let one : c.from-n.result
     ≡ bit (is_newly_applied w.before.now w.s.now (get_or (book_of c.loop-i.b).log (i - 1) no_record)) =
-    c.one_if-n.ensures.0 ∙ ap bit c.apply_row.ensures.value in (
+    few ∙ ap bit c.apply_row.ensures.value in (
       search rules,
       search rules,
       c.apply_row.ensures.b_after ∙ turn-words w.before.now w.s.now w.b.now h y c.loop-i.b (i - 1) lt e,
       ap (λ (k : ℕ). c.loop-i.n + k) one
           ∙ turn-newly w.before.now w.s.now w.b.now h y c.loop-i.b (i - 1) lt e c.loop-i.n f,
-      omega (arith, c.loop-i.invariant.4, c.one_if-n.ensures.1, c.loop-i-test.true),
+      omega (arith, c.loop-i.invariant.4, few, bit_le c.apply_row.result, c.loop-i-test.true),
     )
 
 pub returns : goal.returns

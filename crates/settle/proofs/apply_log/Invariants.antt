@@ -13,6 +13,3 @@ invariant-loop-i l =
     (l.i ≤ length (book_of l.initial.b).log) × (length l.b ≡ length l.initial.b)
     × (l.b ≡ words_of (applied_from l.before l.s (book_of l.initial.b) l.i))
     × (l.n ≡ length (newly_applied l.before l.s (drop l.i (book_of l.initial.b).log))) × (l.n + l.i ≤ log_room)
-
-abbrev pub decreases-loop-i : goal.decreases-loop-i
-decreases-loop-i l = l.i

@@ -21,7 +21,7 @@ pub count_tap-requires : goal.count_tap-requires
 count_tap-requires c =
     let ws = c.args.b.now in
     let r = record_at c.args.row.now in
-    let o = stamp-whole c.args.row.now c.requires.row_len.0 c.requires.row_len.1 in
+    let o = stamp-whole c.args.row.now c.told-row c.requires.origin in
     let shape = merged-shape ws c.requires.held r o in
     let e = c.merge_value.ensures
     ∙ ap (λ (x : Stamp). words_of (with_value (merge x (book_of ws).value) (book_of ws))) c.row_stamp-s.ensures in
@@ -35,7 +35,7 @@ pub returns : goal.returns
 returns c =
     let ws = c.args.b.now in
     let r = record_at c.args.row.now in
-    let o = stamp-whole c.args.row.now c.requires.row_len.0 c.requires.row_len.1 in
+    let o = stamp-whole c.args.row.now c.told-row c.requires.origin in
     let e = c.merge_value.ensures
     ∙ ap (λ (x : Stamp). words_of (with_value (merge x (book_of ws).value) (book_of ws))) c.row_stamp-s.ensures in
     let same = book_is _ _ (merged-shape ws c.requires.held r o) e in

@@ -7,7 +7,6 @@ use Rattle.lent.specs.Words.{book_of, words_of}
 use Rattle.settle.specs.Moves.{apply_all}
 use Rattle.settle.specs.Ready.{Appliable}
 use Rattle.settle.proofs.Turn.{applied-held, applied-me, shed-settled}
-use borrow.Author.Rules.{rules}
 use Rattle.settle.proofs.settle_book.Goals as goal
 
 pub apply_log-n-requires : goal.apply_log-n-requires
@@ -17,7 +16,6 @@ apply_log-n-requires c =
     let ready = subst (λ (x : Stamp). Appliable w.before.now x (book_of w.b.now)) here c.requires.appliable in
     record {
       held = c.requires.held;
-      before_len = (search rules, search rules);
       appliable = ready;
     }
 

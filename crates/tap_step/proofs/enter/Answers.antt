@@ -10,7 +10,6 @@ use Rattle.meaning.specs.BookLaws.{me_in, known-fits}
 use Rattle.meaning.specs.Step.{new_record}
 use Rattle.meaning.proofs.StepLaws.{new-origin}
 use Rattle.lent.specs.Words.{book_of}
-use borrow.Author.Rules.{rules}
 use Rattle.tap_step.proofs.Entered.{raised-held, raised-fresh, raised-room, put-held, put-me, put-ready}
 use Rattle.tap_step.proofs.Entered.{put-settled}
 use Rattle.tap_step.proofs.Turn.{own_small}
@@ -47,12 +46,11 @@ put_record-requires c =
     let x = body_of c.args.w in
     let l = list_of c.args.label in
     let d = c.requires.take_done in
-    let e = c.new_row-row.ensures.0 in
+    let e = c.new_row-row.ensures in
     let f = c.raise_own.ensures in
     let row = c.new_row-row.result in
     record {
       held = raised-held b x l d row e _ f;
-      row_len = search rules;
       fresh = raised-fresh b x l d row e _ f;
       b_len_bound = raised-room b x l d row e _ f;
     }
@@ -63,14 +61,13 @@ settle_book-requires c =
     let x = body_of c.args.w in
     let l = list_of c.args.label in
     let d = c.requires.take_done in
-    let e = c.new_row-row.ensures.0 in
+    let e = c.new_row-row.ensures in
     let f = c.raise_own.ensures in
     let g = c.put_record.ensures in
     let row = c.new_row-row.result in
     record {
       held = put-held b x l d row e _ f _ g;
       b_bound = put-me b x l d row e _ f _ g;
-      before_len = search rules;
       appliable = put-ready b x l d row e _ f _ g _ c.ready_of-before.ensures.0;
     }
 
@@ -81,7 +78,7 @@ stamp_parts-requires c =
     let l = list_of c.args.label in
     let low : (new_record b x l).origin < parts =
     omega (arith, new-origin b x l, own_small b c.requires.take_done.sound-before) in
-    (search rules, subst (λ (z : Record). z.origin < parts) (sym c.new_row-row.ensures.0) low)
+    subst (λ (z : Record). z.origin < parts) (sym c.new_row-row.ensures) low
 
 pub returns : goal.returns
 returns c =
@@ -89,7 +86,7 @@ returns c =
     let x = body_of c.args.w in
     let l = list_of c.args.label in
     let d = c.requires.take_done in
-    let e = c.new_row-row.ensures.0 in
+    let e = c.new_row-row.ensures in
     let f = c.raise_own.ensures in
     let g = c.put_record.ensures in
     let settled = put-settled b x l d c.new_row-row.result e _ f _ g _ c.ready_of-before.ensures.0 in

@@ -4,7 +4,6 @@ use Prim.Native.Nat.{◌<◌}
 use Rattle.limits.specs.Limits.{parts}
 use Rattle.ledger.specs.Record.{Record, stamp_of}
 use Rattle.lent.specs.SoundWords.{lawful-held}
-use borrow.Author.Rules.{rules}
 use Rattle.tap_step.proofs.Turn.{logged-origin}
 use Rattle.tap_step.proofs.logged_stamp.Goals as goal
 
@@ -16,11 +15,9 @@ log_row-row-requires c =
     }
 
 pub stamp_parts-requires : goal.stamp_parts-requires
-stamp_parts-requires c = (
-  search rules,
-  subst (λ (x : Record). x.origin < parts) (sym c.log_row-row.ensures.0)
-      (logged-origin c.args.b.now c.requires.t c.args.i c.requires.i_in_bounds),
-)
+stamp_parts-requires c =
+    subst (λ (x : Record). x.origin < parts) (sym c.log_row-row.ensures)
+    (logged-origin c.args.b.now c.requires.t c.args.i c.requires.i_in_bounds)
 
 pub returns : goal.returns
-returns c = c.stamp_parts.ensures ∙ ap stamp_of c.log_row-row.ensures.0
+returns c = c.stamp_parts.ensures ∙ ap stamp_of c.log_row-row.ensures

@@ -24,4 +24,4 @@ returns c =
     c.part_at.ensures ∙ ap₂ part c.known_of-s.ensures.0 c.screen_of-i.ensures in
     let l = list_of c.args.label in
     let made = new_made c.args.b.now _ _ c.args.w l c.requires.t c.screen_of-i.ensures (own) in
-    (c.make_row.ensures.0 ∙ made, c.make_row.ensures.1)
+    c.make_row.ensures ∙ made

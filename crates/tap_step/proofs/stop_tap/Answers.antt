@@ -1,13 +1,14 @@
 -- `tap_step::stop_tap` meets its contract: each return is a line of a tap's stops, or none of them. Assumes nothing.
-use Prim.Native.Nat.{ℕ, ◌<◌, ◌≤◌}
+use Prim.Native.Nat.{ℕ}
 use native.Mathlib.Omega.{arith}
-use mathlib.Core.Path.{◌≡◌, refl, sym, ap, subst, ◌∙◌}
+use mathlib.Core.Path.{◌≡◌, refl, sym, ap, ◌∙◌}
 use mathlib.Core.Bool.{Bool, false}
 use mathlib.Core.List.{List}
 use mathlib.Core.Option.{some}
-use lib.Dec.{T}
-use lib.ListN.{length, get_or}
-use borrow.Author.Tests.{lt-ltb, le-ltb, le-leb, lt-leb}
+use lib.Dec.{T, eqb}
+use lib.ListN.{length}
+use Rattle.std.specs.Prelude.{None, position}
+use borrow.Author.Tests.{le-leb, lt-leb}
 use Rattle.lists.specs.Tests.{exists}
 use Rattle.limits.specs.Limits.{log_room}
 use Rattle.stamp.specs.Parts.{list_of}
@@ -16,8 +17,7 @@ use Rattle.tally.specs.Standing.{among}
 use Rattle.tally.specs.Tap.{tap_of, word_of, tap_fits}
 use Rattle.tally.proofs.WordLaws.{fits_bits, tap-word}
 use Rattle.tally.specs.declared.Tap.{Tap}
-use Rattle.ledger.specs.Record.{Record, stamp_of}
-use Rattle.book_log.specs.First.{first_with}
+use Rattle.ledger.specs.Record.{Record}
 use Rattle.meaning.specs.Book.{Book, holds}
 use Rattle.meaning.specs.BookLaws.{me_in}
 use Rattle.meaning.specs.Reply.{already}
@@ -25,7 +25,7 @@ use Rattle.meaning.specs.Step.{first_stamp}
 use Rattle.lent.specs.SoundWords.{lawful-sound, lawful-held}
 use Rattle.lent.specs.Words.{book_of}
 use Rattle.lent.specs.Rows.{no_record}
-use Rattle.tap_step.proofs.Found.{tap-found, first-stamp}
+use Rattle.tap_step.proofs.Found.{tap-gone, tap-within, tap-found, first-stamp}
 use Rattle.tap_step.proofs.Lines.{line_3, line-counted, line-logged, line_7, line_9, line_clear}
 use Rattle.tap_step.proofs.stop_tap.Goals as goal
 
@@ -39,123 +39,109 @@ uncounted : (b : Book) (t : Tap) (w : ℕ) → tap_of w ≡ t → {a : Bool} →
 uncounted b t w s e f = ap (among b.counted) (sym s) ∙ sym e ∙ f
 
 -- a word that stands nowhere in the log is a tap that does not
-unlogged : (rs : List Record) (t : Tap) (w : ℕ) → tap_of w ≡ t → length rs ≤ first_with w rs
+unlogged : (rs : List Record) (t : Tap) (w : ℕ) → tap_of w ≡ t → position (λ r. eqb r.body w) rs ≡ None
     → exists (holds t) rs ≡ false
-unlogged rs t w s gone =
-    ap (λ (x : Tap). exists (holds x) rs) (sym s) ∙ tap-found w rs ∙ le-ltb (first_with w rs) (length rs) gone
+unlogged rs t w s gone = ap (λ (x : Tap). exists (holds x) rs) (sym s) ∙ tap-gone w rs gone
 
 pub label_unknown-requires : goal.label_unknown-requires
 label_unknown-requires c =
     record {
-      held = lawful-held c.args.b.now c.requires.t;
-      b_bound = me_in (book_of c.args.b.now) (lawful-sound c.args.b.now c.requires.t);
+      held = lawful-held c.args.b.now c.requires.sound;
+      b_bound = me_in (book_of c.args.b.now) (lawful-sound c.args.b.now c.requires.sound);
     }
 
 pub returns-then-label_unknown : goal.returns-then-label_unknown
 returns-then-label_unknown c =
     let ws = c.args.b.now in
-    line_3 (book_of ws) c.args.tap (list_of c.args.label) (lawful-sound ws c.requires.t) c.requires.t_2
-    c.requires.t_3
+    line_3 (book_of ws) c.args.asked.tap (list_of c.args.asked.label) (lawful-sound ws c.requires.sound) c.requires.tap_fits
+    c.requires.label_fits
     (sym c.label_unknown.ensures ∙ c.if-label_unknown.true)
 
 pub pack-w-requires : goal.pack-w-requires
-pack-w-requires c = fits_bits c.args.tap c.requires.t_2
+pack-w-requires c = fits_bits c.args.asked.tap c.requires.tap_fits
 
 pub is_counted-requires : goal.is_counted-requires
-is_counted-requires c = lawful-held c.args.b.now c.requires.t
+is_counted-requires c = lawful-held c.args.b.now c.requires.sound
 
 pub value_of-requires : goal.value_of-requires
-value_of-requires c = lawful-held c.args.b.now c.requires.t
+value_of-requires c = lawful-held c.args.b.now c.requires.sound
 
 pub returns-then-is_counted : goal.returns-then-is_counted
 returns-then-is_counted c =
     let ws = c.args.b.now in
     let b = book_of ws in
-    let e = ap (among b.counted) (sym (same c.args.tap _ c.requires.t_2 c.pack-w.ensures)) ∙ sym c.is_counted.ensures
+    let e = ap (among b.counted) (sym (same c.args.asked.tap _ c.requires.tap_fits c.pack-w.ensures)) ∙ sym c.is_counted.ensures
     ∙ c.if-is_counted.true in
-    line-counted b c.args.tap (list_of c.args.label) (lawful-sound ws c.requires.t) c.requires.t_2 c.requires.t_3
+    line-counted b c.args.asked.tap (list_of c.args.asked.label) (lawful-sound ws c.requires.sound) c.requires.tap_fits c.requires.label_fits
     (sym c.label_unknown.ensures ∙ c.if-label_unknown.false) e
     ∙ ap (λ (x : Stamp). some (already x)) (sym c.value_of.ensures)
 
-pub logged_of-n-requires : goal.logged_of-n-requires
-logged_of-n-requires c = lawful-held c.args.b.now c.requires.t
-
-pub find_logged-i-requires : goal.find_logged-i-requires
-find_logged-i-requires c = lawful-held c.args.b.now c.requires.t
+pub find_logged-requires : goal.find_logged-requires
+find_logged-requires c = lawful-held c.args.b.now c.requires.sound
 
 pub logged_stamp-requires : goal.logged_stamp-requires
 logged_stamp-requires c =
-    let within : c.find_logged-i.result < length (book_of c.args.b.now).log =
-    omega (arith, c.logged_of-n.ensures.0, c.if-i-n.true) in
     record {
-      t = c.requires.t;
-      i_in_bounds = within;
+      t = c.requires.sound;
+      i_in_bounds = tap-within c.pack-w.result (book_of c.args.b.now).log c.in-Some.i no_record
+          (sym c.find_logged.ensures ∙ c.in-Some.is);
     }
 
-pub returns-then-i-n : goal.returns-then-i-n
-returns-then-i-n c =
+pub returns-in-Some : goal.returns-in-Some
+returns-in-Some c =
     let ws = c.args.b.now in
     let rs = (book_of ws).log in
     let w = c.pack-w.result in
-    let s = same c.args.tap _ c.requires.t_2 c.pack-w.ensures in
-    let within : c.find_logged-i.result < length rs = omega (arith, c.logged_of-n.ensures.0, c.if-i-n.true) in
-    let lt : first_with w rs < length rs = subst (λ (i : ℕ). i < length rs) c.find_logged-i.ensures within in
-    let found = ap (λ (x : Tap). exists (holds x) rs) (sym s) ∙ tap-found w rs
-    ∙ lt-ltb (first_with w rs) (length rs) lt in
+    let s = same c.args.asked.tap _ c.requires.tap_fits c.pack-w.ensures in
+    let here = sym c.find_logged.ensures ∙ c.in-Some.is in
+    let found = ap (λ (x : Tap). exists (holds x) rs) (sym s) ∙ tap-found w rs c.in-Some.i no_record here in
     let says =
-    c.logged_stamp.ensures ∙ ap (λ (i : ℕ). stamp_of (get_or rs i no_record)) c.find_logged-i.ensures
-    ∙ sym (first-stamp w rs no_record lt)
-    ∙ ap (λ (x : Tap). first_stamp x rs) s in
-    line-logged (book_of ws) c.args.tap (list_of c.args.label) (lawful-sound ws c.requires.t) c.requires.t_2
-    c.requires.t_3
+    c.logged_stamp.ensures ∙ sym (first-stamp w rs c.in-Some.i no_record here) ∙ ap (λ (x : Tap). first_stamp x rs) s in
+    line-logged (book_of ws) c.args.asked.tap (list_of c.args.asked.label) (lawful-sound ws c.requires.sound) c.requires.tap_fits
+    c.requires.label_fits
     (sym c.label_unknown.ensures ∙ c.if-label_unknown.false)
-    (uncounted (book_of ws) c.args.tap _ (same c.args.tap _ c.requires.t_2 c.pack-w.ensures) c.is_counted.ensures
-    c.if-is_counted.false) found
+    (uncounted (book_of ws) c.args.asked.tap _ s c.is_counted.ensures c.if-is_counted.false) found
     ∙ ap (λ (x : Stamp). some (already x)) (sym says)
 
 pub is_spent-requires : goal.is_spent-requires
-is_spent-requires c = c.requires.t
+is_spent-requires c = c.requires.sound
 
 pub returns-then-is_spent : goal.returns-then-is_spent
 returns-then-is_spent c =
     let ws = c.args.b.now in
-    let gone : length (book_of ws).log ≤ first_with c.pack-w.result (book_of ws).log =
-    omega (arith, c.find_logged-i.ensures, c.logged_of-n.ensures.0, c.if-i-n.false) in
-    line_7 (book_of ws) c.args.tap (list_of c.args.label) (lawful-sound ws c.requires.t) c.requires.t_2 c.requires.t_3
+    let s = same c.args.asked.tap _ c.requires.tap_fits c.pack-w.ensures in
+    line_7 (book_of ws) c.args.asked.tap (list_of c.args.asked.label) (lawful-sound ws c.requires.sound) c.requires.tap_fits c.requires.label_fits
     (sym c.label_unknown.ensures ∙ c.if-label_unknown.false)
-    (uncounted (book_of ws) c.args.tap _ (same c.args.tap _ c.requires.t_2 c.pack-w.ensures) c.is_counted.ensures
-    c.if-is_counted.false)
-    (unlogged (book_of ws).log c.args.tap _ (same c.args.tap _ c.requires.t_2 c.pack-w.ensures) gone)
+    (uncounted (book_of ws) c.args.asked.tap _ s c.is_counted.ensures c.if-is_counted.false)
+    (unlogged (book_of ws).log c.args.asked.tap _ s (sym c.find_logged.ensures ∙ c.in_default.is))
     (sym c.is_spent.ensures ∙ c.if-is_spent.true)
 
-pub returns-then-log_room-n : goal.returns-then-log_room-n
-returns-then-log_room-n c =
+pub logged_of-requires : goal.logged_of-requires
+logged_of-requires c = lawful-held c.args.b.now c.requires.sound
+
+pub returns-then-log_room-logged_of : goal.returns-then-log_room-logged_of
+returns-then-log_room-logged_of c =
     let ws = c.args.b.now in
-    let gone : length (book_of ws).log ≤ first_with c.pack-w.result (book_of ws).log =
-    omega (arith, c.find_logged-i.ensures, c.logged_of-n.ensures.0, c.if-i-n.false) in
+    let s = same c.args.asked.tap _ c.requires.tap_fits c.pack-w.ensures in
     let full = le-leb log_room (length (book_of ws).log)
-    (omega (arith, c.log_room.ensures, c.logged_of-n.ensures.0, c.if-log_room-n.true)) in
-    line_9 (book_of ws) c.args.tap (list_of c.args.label) (lawful-sound ws c.requires.t) c.requires.t_2 c.requires.t_3
+    (omega (arith, c.log_room.ensures, c.logged_of.ensures.0, c.if-log_room-logged_of.true)) in
+    line_9 (book_of ws) c.args.asked.tap (list_of c.args.asked.label) (lawful-sound ws c.requires.sound) c.requires.tap_fits c.requires.label_fits
     (sym c.label_unknown.ensures ∙ c.if-label_unknown.false)
-    (uncounted (book_of ws) c.args.tap _ (same c.args.tap _ c.requires.t_2 c.pack-w.ensures) c.is_counted.ensures
-    c.if-is_counted.false)
-    (unlogged (book_of ws).log c.args.tap _ (same c.args.tap _ c.requires.t_2 c.pack-w.ensures) gone)
+    (uncounted (book_of ws) c.args.asked.tap _ s c.is_counted.ensures c.if-is_counted.false)
+    (unlogged (book_of ws).log c.args.asked.tap _ s (sym c.find_logged.ensures ∙ c.in_default.is))
     (sym c.is_spent.ensures ∙ c.if-is_spent.false) full
 
 pub returns : goal.returns
 returns c =
     let ws = c.args.b.now in
-    let gone : length (book_of ws).log ≤ first_with c.pack-w.result (book_of ws).log =
-    omega (arith, c.find_logged-i.ensures, c.logged_of-n.ensures.0, c.if-i-n.false) in
+    let s = same c.args.asked.tap _ c.requires.tap_fits c.pack-w.ensures in
     let room = lt-leb log_room (length (book_of ws).log)
-    (omega (arith, c.log_room.ensures, c.logged_of-n.ensures.0, c.if-log_room-n.false)) in (
-      line_clear (book_of ws) c.args.tap (list_of c.args.label) (lawful-sound ws c.requires.t) c.requires.t_2
-          c.requires.t_3
+    (omega (arith, c.log_room.ensures, c.logged_of.ensures.0, c.if-log_room-logged_of.false)) in (
+      line_clear (book_of ws) c.args.asked.tap (list_of c.args.asked.label) (lawful-sound ws c.requires.sound) c.requires.tap_fits
+          c.requires.label_fits
           (sym c.label_unknown.ensures ∙ c.if-label_unknown.false)
-          (uncounted (book_of ws) c.args.tap _ (same c.args.tap _ c.requires.t_2 c.pack-w.ensures)
-          c.is_counted.ensures c.if-is_counted.false)
-          (unlogged (book_of ws).log c.args.tap _ (same c.args.tap _ c.requires.t_2 c.pack-w.ensures) gone)
+          (uncounted (book_of ws) c.args.asked.tap _ s c.is_counted.ensures c.if-is_counted.false)
+          (unlogged (book_of ws).log c.args.asked.tap _ s (sym c.find_logged.ensures ∙ c.in_default.is))
           (sym c.is_spent.ensures ∙ c.if-is_spent.false) room,
-      refl,
       refl,
     )

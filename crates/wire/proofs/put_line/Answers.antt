@@ -7,13 +7,14 @@ use lib.Dec.{T}
 use Rattle.numbers.specs.Fields.{fields_fit}
 use Rattle.wire.specs.Write.{put_line}
 use Rattle.wire.proofs.Returns.{fit_length, meets}
-use Rattle.wire.specs.declared.Written.TheVariants.{Wrote, Refused}
+use Rattle.std.specs.Prelude.{Ok, Err}
+use Rattle.wire.specs.declared.Refusal.TheVariants.{Bad, Short}
 use Rattle.wire.proofs.put_line.Goals as goal
 
 pub returns-then-not-fields_fit : goal.returns-then-not-fields_fit
 unfolding put_line
 returns-then-not-fields_fit c = let s = c.args in
-    meets (Refused 1) s.out.now (rw (sym c.fields_fit.ensures ∙ not-true _ c.if-not-fields_fit.true-raw))
+    meets (Err Bad) s.out.now (rw (sym c.fields_fit.ensures ∙ not-true _ c.if-not-fields_fit.true-raw))
 
 pub returns-then-out-long : goal.returns-then-out-long
 unfolding put_line
@@ -21,7 +22,7 @@ returns-then-out-long c =
     let fitted : (let s = c.args in
     fields_fit s.ws.now s.line.now ≡ true) =
     sym c.fields_fit.ensures ∙ not-false _ c.if-not-fields_fit.false-raw in
-    meets (Refused 12) c.args.out.now (rw (fitted, c.requires, lt-ltb _ _ c.if-out-long.true))
+    meets (Err Short) c.args.out.now (rw (fitted, c.requires, lt-ltb _ _ c.if-out-long.true))
 
 pub put_fields-requires : goal.put_fields-requires
 put_fields-requires c =
@@ -39,7 +40,7 @@ returns c =
     let fitted : (let s = c.args in
     fields_fit s.ws.now s.line.now ≡ true) =
     sym c.fields_fit.ensures ∙ not-false _ c.if-not-fields_fit.false-raw in
-    meets (Wrote c.args.long) c.put_fields.new.out
+    meets (Ok c.args.long) c.put_fields.new.out
     (rw (
       fitted,
       c.requires,
