@@ -1,7 +1,7 @@
 // Send: the known stamp and the whole log as one gossip message at the front of a lent output.
 #![tactic(auto, using(crate::proofs::Held::held))]
 
-ghost use Rattle.std.specs.Prelude.{◌≡◌, ◌+◌, ◌-◌, ◌≤◌, ◌<◌, T, length, get_or};
+ghost use Rattle.std.specs.Prelude.{◌≡◌, ◌+◌, ◌≤◌, ◌<◌, T, length, get_or};
 ghost use Rattle.lists.specs.Part.{patch};
 ghost use Rattle.stamp.specs.Parts.{list_of};
 ghost use Rattle.book_log.specs.Region.{row_long, record_at};
@@ -52,16 +52,6 @@ fn put_row(row: &[u64], n: usize, m: Parts, part: &mut [u8])
     let _ = write_record(row[ORIGIN], row[NUMBER], label, tap, n, m, part);
 }
 
-// The same over the part of out from a up to e.
-fn put_row_at(row: &[u64], n: usize, m: Parts, out: &mut [u8], a: usize, e: usize)
-    requires row_len { (length row.now ≡ row_long) × (a ≤ e) × (e ≤ length out.old) × (e - a ≡ record_long) }
-    requires t { T (writable (record_kind n (list_of m)) (line_for (record_at row.now))) }
-    ensures { out.new
-        ≡ patch a (e - a) out.old (written (record_kind n (list_of m)) (line_for (record_at row.now))) }
-{
-    put_row(row, n, m, &mut out[a..e]);
-}
-
 // The log's i-th record at its place in the message.
 fn put_record(b: &[u64], i: usize, m: Parts, out: &mut [u8])
     requires t { T (lawful b.now) }
@@ -73,7 +63,12 @@ fn put_record(b: &[u64], i: usize, m: Parts, out: &mut [u8])
 {
     let row = log_row(b, i);
     let a = HEAD_SIZE + i * RECORD_SIZE;
-    put_row_at(&row, screens_of(b) as usize, m, out, a, a + RECORD_SIZE);
+    put_row(
+        &row,
+        screens_of(b) as usize,
+        m,
+        &mut out[a..a + RECORD_SIZE],
+    );
 }
 
 // The log's records behind the head.
