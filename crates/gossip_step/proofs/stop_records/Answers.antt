@@ -33,7 +33,8 @@ pub returns-in_default : goal.returns-in_default
 returns-in_default c =
     let w = c.args in
     gap-refused w.b.now w.msg.now w.sender w.screens w.count (list_of w.stamp) c.requires.t c.requires.heard
-    c.requires.stamp_value _ c.known_of-known.ensures.0 _ refl (untold _ _ (sym c.look_at.ensures.value ∙ c.in_default.is))
+    c.requires.stamp_value _ c.known_of-known.ensures.0 _ refl
+    (untold _ _ (sym c.look_at.ensures.value ∙ c.in_default.is))
 
 pub logged_of-requires : goal.logged_of-requires
 logged_of-requires c =
