@@ -15,10 +15,13 @@ use Rattle.wire.specs.Requests.{tap_long, gossip_long}
 use Rattle.wire.specs.Kinds.{message_long, open_kind}
 use Rattle.wire.specs.Read.{line_of, readable, read_as}
 use Rattle.wire.proofs.ReadLaws.{told}
-use Rattle.wire.specs.Write.{Output, Meets, refuse}
-use Rattle.wire.specs.Says as said
-use Rattle.wire.specs.declared.Written.{Written}
-use Rattle.wire.specs.declared.Written.TheVariants.{Wrote, Refused}
+use Rattle.wire.specs.Write.{Written, Output, Meets, refuse}
+use Rattle.wire.specs.Says.{open_says}
+use Rattle.std.specs.Prelude.{Ok, Err}
+use Rattle.wire.specs.Refusal.{table_number}
+use Rattle.wire.specs.declared.Open as opening
+use Rattle.wire.specs.declared.Refusal.{Refusal}
+use Rattle.wire.specs.declared.Refusal.TheVariants.{Bad, Unsound, Short}
 use Rattle.message.specs.Message.{message_bytes}
 use Rattle.meaning.specs.Reply.{Reply, refusal, figures, is_taken, is_gossiped}
 use Rattle.meaning.specs.Step.{send}
@@ -28,10 +31,8 @@ use Rattle.promise.specs.Lent.{Lent, Promise, tap_on, tap_stop, gossip_on, gossi
 use Rattle.promise.specs.Spoken.{spoken}
 use Rattle.promise.specs.declared.Reply as answer
 use Rattle.promise.specs.declared.Reply.TheVariants as says
-use Rattle.open_step.specs.Opening.{Opens}
+use Rattle.open_step.specs.Opening.{Opening, Opens}
 use Rattle.open_step.specs.OpeningLaws.{wrong-length}
-use Rattle.open_step.specs.declared.Opening as opening
-use Rattle.open_step.specs.declared.Opening.TheVariants as opened
 use Rattle.book.specs.Heard.{owes_unsound, owes_unread}
 use Rattle.answer.specs.Speech.{bytes_for, sayable, long_of, say_on}
 use Rattle.answer.specs.SpeechLaws.{says-put, reply-long, tap-says, gossip-says}
@@ -72,8 +73,8 @@ pub put-owes :
 put-owes d ws out words long bytes = go (ltb (length out) (length d.says)) refl
   where
     put : Bool → Output
-    put c = cond c (refuse 12 out)
-        (record { answer = Wrote (length d.says); bytes = d.says ++ drop (length d.says) out })
+    put c = cond c (refuse Short out)
+        (record { answer = Ok (length d.says); bytes = d.says ++ drop (length d.says) out })
 
     go : (c : Bool) → ltb (length out) (length d.says) ≡ c → long ≡ long_in (put c).answer → bytes ≡ (put c).bytes
         → (length out < length d.says → words ≡ ws) → (length d.says ≤ length out → words ≡ d.words)
@@ -123,10 +124,10 @@ gossip-room ws bytes e =
 
 -- bytes that are no request
 module _ (ws : List ℕ) where
-  pub bad_unsound : lawful ws ≡ false → Promise (bad_on ws) (says.Refused 11) ws
+  pub bad_unsound : lawful ws ≡ false → Promise (bad_on ws) (says.Refused Unsound) ws
   bad_unsound e = owes_unsound ws e (record { reply = refusal 1; book = book_of ws })
 
-  pub bad_unread : lawful ws ≡ true → Promise (bad_on ws) (says.Refused 1) ws
+  pub bad_unread : lawful ws ≡ true → Promise (bad_on ws) (says.Refused Bad) ws
   bad_unread e = owes_unread ws e false refl (record { reply = refusal 1; book = book_of ws })
 
 -- send's
@@ -136,20 +137,20 @@ module _ (ws out : List ℕ) where
 
   abbrev sent : Bool → Bool → Output
   sent sound short = cond sound
-      (cond short (refuse 12 out)
-      (record { answer = Wrote (length message); bytes = message ++ drop (length message) out })) (refuse 11 out)
+      (cond short (refuse Short out)
+      (record { answer = Ok (length message); bytes = message ++ drop (length message) out })) (refuse Unsound out)
 
   abbrev done : Bool → Done
   done sound = let says = cond sound message (bytes_for (refusal 11)) in record { says = says; words = ws }
 
-  pub send-wrote : (n : ℕ) (bytes : List ℕ) (w : Written) → w ≡ Wrote n → Meets (send_on ws out) w bytes
+  pub send-wrote : (n : ℕ) (bytes : List ℕ) (w : Written) → w ≡ Ok n → Meets (send_on ws out) w bytes
       → Answers (answer_by (send_done ws) ws out) n ws bytes
   unfolding send_on message
   send-wrote n bytes w f m =
       go (lawful ws) (ltb (length out) (length message)) refl
       (subst (λ (x : Written). Meets (send_on ws out) x bytes) f m)
     where
-      go : (sound short : Bool) → ltb (length out) (length message) ≡ short → Meets (sent sound short) (Wrote n) bytes
+      go : (sound short : Bool) → ltb (length out) (length message) ≡ short → Meets (sent sound short) (Ok n) bytes
           → Answers (answer_by (done sound) ws out) n ws bytes
       go true true e q = let a = q.answers in let z : ◌≡◌ {A = ℕ} 0 1 = cc in absurd (omega arith)
       go true false e q =
@@ -159,44 +160,46 @@ module _ (ws out : List ℕ) where
       go false short e q = let a = q.answers in let z : ◌≡◌ {A = ℕ} 0 1 = cc in absurd (omega arith)
 
   -- 12 and nothing done, or 11
-  send-refused : (k : ℕ) (bytes : List ℕ) → Meets (send_on ws out) (Refused k) bytes
-      → (bytes ≡ out) × (((k ≡ 12) × (length out < length (send_says ws)))
-      ⊎ ((k ≡ 11) × (send_says ws ≡ bytes_for (refusal 11))))
+  send-refused : (k : Refusal) (bytes : List ℕ) → Meets (send_on ws out) (Err k) bytes
+      → (bytes ≡ out) × (((k ≡ Short) × (length out < length (send_says ws)))
+      ⊎ ((k ≡ Unsound) × (send_says ws ≡ bytes_for (refusal 11))))
   unfolding send_on message
   send-refused k bytes m = go (lawful ws) (ltb (length out) (length message)) refl m
     where
-      go : (sound short : Bool) → ltb (length out) (length message) ≡ short → Meets (sent sound short) (Refused k) bytes
-          → (bytes ≡ out) × (((k ≡ 12) × (length out < length (done sound).says))
-          ⊎ ((k ≡ 11) × ((done sound).says ≡ bytes_for (refusal 11))))
+      go : (sound short : Bool) → ltb (length out) (length message) ≡ short → Meets (sent sound short) (Err k) bytes
+          → (bytes ≡ out) × (((k ≡ Short) × (length out < length (done sound).says))
+          ⊎ ((k ≡ Unsound) × ((done sound).says ≡ bytes_for (refusal 11))))
       go true true e q = let a = q.answers in (q.leaves, inl (cc, ltb-true (length out) (length message) e))
       go true false e q = let a = q.answers in let z : ◌≡◌ {A = ℕ} 0 1 = cc in absurd (omega arith)
       go false short e q = let a = q.answers in (q.leaves, inr (cc, refl))
 
-  module _ (k : ℕ) (bytes : List ℕ) (w : Written) (e : w ≡ Refused k) (m : Meets (send_on ws out) w bytes) where
-    refused : (bytes ≡ out) × (((k ≡ 12) × (length out < length (send_says ws)))
-        ⊎ ((k ≡ 11) × (send_says ws ≡ bytes_for (refusal 11))))
+  module _ (k : Refusal) (bytes : List ℕ) (w : Written) (e : w ≡ Err k) (m : Meets (send_on ws out) w bytes) where
+    refused : (bytes ≡ out) × (((k ≡ Short) × (length out < length (send_says ws)))
+        ⊎ ((k ≡ Unsound) × (send_says ws ≡ bytes_for (refusal 11))))
     refused = send-refused k bytes (subst (λ (x : Written). Meets (send_on ws out) x bytes) e m)
 
     not_done : length out < length (send_says ws) → Answers (answer_by (send_done ws) ws out) 0 ws bytes
     not_done h = let a = short (send_done ws) ws out h in
         record { gives = a.gives; leaves = a.leaves; writes = refused.0 ∙ a.writes }
 
-    pub send-short : k ≡ 12 → Answers (answer_by (send_done ws) ws out) 0 ws bytes
-    send-short f = either refused.1 (λ x. not_done x.1) (λ x. absurd (omega (arith, f, x.0)))
+    pub send-short : table_number k ≡ 12 → Answers (answer_by (send_done ws) ws out) 0 ws bytes
+    send-short f = either refused.1 (λ x. not_done x.1) (λ x. absurd (omega (arith, f, ap table_number x.0)))
 
-    unsound : (k ≡ 12 → ⊥) → (k ≡ 11) × (send_says ws ≡ bytes_for (refusal 11))
-    unsound n = either refused.1 (λ x. absurd (n x.0)) (λ x. x)
+    unsound : (table_number k ≡ 12 → ⊥) → (k ≡ Unsound) × (send_says ws ≡ bytes_for (refusal 11))
+    unsound n = either refused.1 (λ x. absurd (n (ap table_number x.0))) (λ x. x)
 
     -- 11 is put like any other reply
-    pub send-ready : (k ≡ 12 → ⊥) → T (sayable (refusal k))
-    send-ready n = subst (λ (x : ℕ). T (sayable (refusal x))) (sym (unsound n).0) unsound-says
+    pub send-ready : (table_number k ≡ 12 → ⊥) → T (sayable (spoken (says.Refused k)))
+    send-ready n = subst (λ (x : Refusal). T (sayable (spoken (says.Refused x)))) (sym (unsound n).0) unsound-says
 
     pub send-owes :
-        (k ≡ 12 → ⊥) → (long : ℕ) (after : List ℕ) → long ≡ long_in (put_front (bytes_for (refusal k)) bytes).answer
-        → after ≡ (put_front (bytes_for (refusal k)) bytes).bytes
+        (table_number k ≡ 12 → ⊥) → (long : ℕ) (after : List ℕ)
+        → long ≡ long_in (put_front (bytes_for (spoken (says.Refused k))) bytes).answer
+        → after ≡ (put_front (bytes_for (spoken (says.Refused k))) bytes).bytes
         → Answers (answer_by (send_done ws) ws out) long ws after
     send-owes n long after f g =
-        let same : bytes_for (refusal k) ≡ send_says ws = ap (λ (x : ℕ). bytes_for (refusal x)) (unsound n).0
+        let same : bytes_for (spoken (says.Refused k))
+        ≡ send_says ws = ap (λ (x : Refusal). bytes_for (spoken (says.Refused x))) (unsound n).0
         ∙ sym (unsound n).1 in
         put-owes (send_done ws) ws out ws long after
         (f ∙ ap₂ (λ (x y : List ℕ). long_in (put_front x y).answer) same refused.0)
@@ -204,33 +207,33 @@ module _ (ws out : List ℕ) where
 
 -- opening by bytes
 module _ (ws bytes : List ℕ) where
-  pub opens-long : (length ws ≡ book_long → ⊥) → Opens (open_from ws bytes) (opened.Refused 11) ws
+  pub opens-long : (length ws ≡ book_long → ⊥) → Opens (open_from ws bytes) (Err Unsound) ws
   unfolding open_from
   opens-long n = go (readable open_kind bytes)
     where
       go : (c : Bool)
           → Opens (cond c (open_on ws (get_or (line_of open_kind bytes) 1 0) (get_or (line_of open_kind bytes) 2 0))
           (record { refused = some (cond (eqb (length ws) book_long) (refusal 1) (refusal 11)); words = ws }))
-          (opened.Refused 11) ws
+          (Err Unsound) ws
       go true = wrong-length ws (get_or (line_of open_kind bytes) 1 0) (get_or (line_of open_kind bytes) 2 0)
           (ne_eqb (length ws) book_long n)
       go false = rw (ne_eqb (length ws) book_long n) (record { answers = refl; leaves = refl })
 
   pub opens_unread : length ws ≡ book_long → readable open_kind bytes ≡ false
-      → Opens (open_from ws bytes) (opened.Refused 1) ws
+      → Opens (open_from ws bytes) (Err Bad) ws
   unfolding open_from
   opens_unread e f = rw (f, eq-eqb (length ws) book_long e) (record { answers = refl; leaves = refl })
 
   pub opens-read :
-      (i n : ℕ) → said.Open i n ≡ read_as open_kind bytes → (r : opening.Opening) (words : List ℕ)
-      → Opens (open_on ws i n) r words → Opens (open_from ws bytes) r words
+      (o : opening.Open) → Ok (open_says o) ≡ read_as open_kind bytes → (r : Opening) (words : List ℕ)
+      → Opens (open_on ws o.screen o.screens) r words → Opens (open_from ws bytes) r words
   unfolding open_from open_kind
-  opens-read i n read r words p =
-      let t = told open_kind bytes (said.Open i n) read (omega arith) in
+  opens-read o read r words p =
+      let t = told open_kind bytes (open_says o) read in
       let line = line_of open_kind bytes in
       let q = t.1 in
-      let first : i ≡ get_or line 1 0 = cc in
-      let second : n ≡ get_or line 2 0 = cc in
+      let first : o.screen ≡ get_or line 1 0 = cc in
+      let second : o.screens ≡ get_or line 2 0 = cc in
       rw (is_true (readable open_kind bytes) t.0)
       (subst (λ (x : ℕ). Opens (open_on ws x (get_or line 2 0)) r words) first
-      (subst (λ (x : ℕ). Opens (open_on ws i x) r words) second p))
+      (subst (λ (x : ℕ). Opens (open_on ws o.screen x) r words) second p))

@@ -1,12 +1,12 @@
 -- One whole message answered on a lent slice of words, into a lent output. Assumes nothing.
 use Rattle.std.specs.Prelude.{ℕ, ◌≡◌, cond, List, [], ◌∷◌, ◌++◌, map, eqb, ltb, length, get_or, drop}
+use Rattle.std.specs.Result.{result_unwrap_or}
 use Rattle.std.proofs.Math.Option.{some}
 use Rattle.limits.specs.KindNumbers.{head_number, tap_number, question_number, send_number}
 use Rattle.wire.specs.Kinds.{open_kind, send_kind, longest}
 use Rattle.wire.specs.Requests.{tap_long, question_long, gossip_long, refusal_long}
 use Rattle.wire.specs.Read.{line_of, readable}
-use Rattle.wire.specs.declared.Written.{Written}
-use Rattle.wire.specs.declared.Written.TheVariants.{Wrote, Refused}
+use Rattle.wire.specs.Write.{Written}
 use Rattle.message.specs.Message.{message_bytes}
 use Rattle.meaning.specs.Reply.{refusal}
 use Rattle.meaning.specs.Step.{send}
@@ -128,5 +128,4 @@ open_from ws bytes =
 
 -- how many bytes were written: none where the writer refused
 abbrev pub long_in : Written → ℕ
-long_in (Wrote n) = n
-long_in (Refused k) = 0
+long_in w = result_unwrap_or w 0

@@ -32,6 +32,10 @@ use Rattle.ledger.proofs.LogLaws.{put-log}
 use Rattle.ledger.specs.Message.{Message}
 use Rattle.ledger.specs.Record.{Record, is_applied, stamp_of}
 use Rattle.ledger.proofs.RecordLaws.{obeys, stamp-fits}
+use Rattle.wire.specs.Refusal.{table_number}
+use Rattle.wire.specs.declared.Refusal.{Refusal}
+use Rattle.wire.specs.declared.Refusal.TheVariants.{Bad, WrongHouse, UnknownLabel, Old, Crossed, Ahead, Spent, Gap}
+use Rattle.wire.specs.declared.Refusal.TheVariants.{NoRoom, Unsound, Short}
 use Rattle.wire.specs.Requests.{tap_long, question_long, gossip_long}
 use Rattle.wire.specs.Kinds.{bits_width, size_of, stamp_body, tap_kind, question_kind, tap_at, stamp_at, taken_kind}
 use Rattle.wire.specs.Kinds.{already_kind}
@@ -63,10 +67,10 @@ use Rattle.answer.specs.Speech.{kind_of, sayable, bytes_for, long_of, say_on, sa
 pub said-figures : (r : answer.Reply) → wire.figures (said_of r) ≡ figures (spoken r)
 said-figures (says.Taken s) = refl
 said-figures (says.Already s) = refl
-said-figures (says.Verdict v h a d s) = refl
+said-figures (says.Verdict v) = refl
 said-figures (says.Wait bits) = refl
-said-figures (says.Refused k) = refl
-said-figures (says.Gossiped new applied) = refl
+said-figures (says.Refused r) = refl
+said-figures (says.Gossiped g) = refl
 
 pub say-said : (r : answer.Reply) (out : List ℕ)
     → say_on (spoken r) out ≡ write_as (kind_of (spoken r)) (wire.figures (said_of r)) out
@@ -94,6 +98,21 @@ reply-long r t = bytes-long r t ∙ kind-long r
 pub says-put : (r : Reply) (out : List ℕ) → T (sayable r) → say_on r out ≡ put_front (bytes_for r) out
 unfolding say_on write_as bytes_for
 says-put r out t = rw (bytes-long r t, is_true (sayable r) t)
+
+-- every refusal can be said
+pub refusal-says : (r : Refusal) → T (sayable (refusal (table_number r)))
+unfolding writable refusal_kind in_table
+refusal-says Bad = tt
+refusal-says WrongHouse = tt
+refusal-says UnknownLabel = tt
+refusal-says Old = tt
+refusal-says Crossed = tt
+refusal-says Ahead = tt
+refusal-says Spent = tt
+refusal-says Gap = tt
+refusal-says NoRoom = tt
+refusal-says Unsound = tt
+refusal-says Short = tt
 
 -- a reply that can be written in so many bytes
 abbrev within : ℕ → Reply → Bool

@@ -13,37 +13,31 @@ ghost use Rattle.answer.specs.Answer.{done_by, send_done, bad_on, other_done, ki
 ghost use Rattle.answer.specs.Answer.{room_for, open_from, long_in};
 
 use book::{gossip_stop, open, question, send, tap_stop};
-use gossip_step::{GossipStop, take_gossip};
+use gossip_step::take_gossip;
 use lent::BOOK;
-use open_step::Opening;
-use promise::{Reply, UNSOUND};
+use promise::Reply;
 use replies::{
     write_already, write_gossip_taken, write_refusal, write_taken, write_verdict, write_wait,
 };
 use requests::{read_open, read_send};
 use soundness::sound;
-use tap_step::{TapStop, take_tap};
+use tap_step::take_tap;
 use wire::{
-    BAD, GOSSIP_TAKEN_BODY, HEAD, KIND_SIZE, QUESTION, REFUSAL_BODY, SHORT, Said, TAKEN_BODY, TAP,
-    Written, room_of,
+    GOSSIP_TAKEN_BODY, HEAD, KIND_SIZE, QUESTION, REFUSAL_BODY, Refusal, TAKEN_BODY, TAP, room_of,
 };
 
-pub fn speak(reply: Reply, out: &mut [u8]) -> Written
+pub fn speak(reply: Reply, out: &mut [u8]) -> Result<usize, Refusal>
     ensures { Meets (say_on (spoken reply) out.old) result out.new }
 {
     match reply {
         Reply::Taken(stamp) => write_taken(stamp, out),
         Reply::Already(stamp) => write_already(stamp, out),
-        Reply::Verdict {
-            verdict,
-            showing,
-            accepts,
-            declines,
-            value,
-        } => write_verdict(verdict, showing, accepts, declines, value, out),
+        Reply::Verdict(v) => {
+            write_verdict(v.verdict, v.showing, v.accepts, v.declines, v.value, out)
+        }
         Reply::Wait(bits) => write_wait(bits, out),
-        Reply::Refused(number) => write_refusal(number, out),
-        Reply::Gossiped { new, applied } => write_gossip_taken(new, applied, out),
+        Reply::Refused(refusal) => write_refusal(refusal.number(), out),
+        Reply::Gossiped(taken) => write_gossip_taken(taken.new, taken.applied, out),
     }
 }
 
@@ -64,23 +58,13 @@ fn kind_of(msg: &[u8]) -> u8
     msg[0]
 }
 
-fn long_of(wrote: Written) -> usize
-    ensures { result ≡ long_in wrote }
-{
-    match wrote {
-        Written::Wrote(n) => n,
-        Written::Refused(_) => 0,
-    }
-}
-
 // A reply at the front of an output, and how long it is; 0 where the output is shorter, which then stays.
 fn put(reply: Reply, out: &mut [u8]) -> usize
     requires { T (sayable (spoken reply)) }
     ensures value { result ≡ long_in (put_front (bytes_for (spoken reply)) out.old).answer }
     ensures out_after { out.new ≡ (put_front (bytes_for (spoken reply)) out.old).bytes }
 {
-    let wrote = speak(reply, out);
-    long_of(wrote)
+    speak(reply, out).unwrap_or(0)
 }
 
 // What stops a tap is said; one that nothing stops is taken only where Taken has room.
@@ -89,15 +73,13 @@ fn answer_tap(b: &mut [u64], msg: &[u8], out: &mut [u8]) -> usize
         (answer_by (done_by (tap_on b.old msg.now)) b.old out.old) result
         b.new out.new }
 {
-    let stop = tap_stop(b, msg);
-    match stop {
-        TapStop::Stopped(reply) => put(reply, out),
-        TapStop::Clear { tap, label } => {
+    match tap_stop(b, msg) {
+        Err(reply) => put(reply, out),
+        Ok(asked) => {
             if out.len() < TAP_ROOM {
                 return 0;
             }
-            let reply = take_tap(b, tap, label);
-            put(reply, out)
+            put(take_tap(b, asked), out)
         }
     }
 }
@@ -107,8 +89,7 @@ fn answer_question(b: &[u64], msg: &[u8], out: &mut [u8]) -> usize
         (answer_by (done_by (question_on b.now msg.now)) b.now out.old) result
         b.now out.new }
 {
-    let reply = question(b, msg);
-    put(reply, out)
+    put(question(b, msg), out)
 }
 
 // What stops a gossip is said; one that nothing stops is taken only where its reply has room.
@@ -117,21 +98,13 @@ fn answer_gossip(b: &mut [u64], msg: &[u8], out: &mut [u8]) -> usize
         (answer_by (done_by (gossip_on b.old msg.now)) b.old out.old) result
         b.new out.new }
 {
-    let stop = gossip_stop(b, msg);
-    match stop {
-        GossipStop::Stopped(reply) => put(reply, out),
-        GossipStop::Clear {
-            sender,
-            screens,
-            count,
-            stamp,
-            new,
-        } => {
+    match gossip_stop(b, msg) {
+        Err(reply) => put(reply, out),
+        Ok(incoming) => {
             if out.len() < GOSSIP_ROOM {
                 return 0;
             }
-            let reply = take_gossip(b, msg, sender, screens, count, stamp, new);
-            put(reply, out)
+            put(take_gossip(b, msg, incoming), out)
         }
     }
 }
@@ -140,15 +113,10 @@ fn answer_send(b: &[u64], out: &mut [u8]) -> usize
     ensures { Answers (answer_by (send_done b.now) b.now out.old) result
         b.now out.new }
 {
-    let wrote = send(b, out);
-    match wrote {
-        Written::Wrote(n) => n,
-        Written::Refused(number) => {
-            if number == SHORT {
-                return 0;
-            }
-            put(Reply::Refused(number), out)
-        }
+    match send(b, out) {
+        Ok(long) => long,
+        Err(Refusal::Short) => 0,
+        Err(refusal) => put(Reply::Refused(refusal), out),
     }
 }
 
@@ -157,9 +125,9 @@ fn answer_bad(b: &[u64], out: &mut [u8]) -> usize
         b.now out.new }
 {
     if !sound(b) {
-        return put(Reply::Refused(UNSOUND), out);
+        return put(Reply::Refused(Refusal::Unsound), out);
     }
-    put(Reply::Refused(BAD), out)
+    put(Reply::Refused(Refusal::Bad), out)
 }
 
 // Send, or bytes that are no request.
@@ -168,11 +136,10 @@ fn answer_other(b: &[u64], msg: &[u8], out: &mut [u8]) -> usize
         (answer_by (other_done b.now msg.now) b.now out.old) result
         b.now out.new }
 {
-    let said = read_send(msg);
-    let Said::Send = said else {
-        return answer_bad(b, out);
-    };
-    answer_send(b, out)
+    match read_send(msg) {
+        Ok(()) => answer_send(b, out),
+        Err(_) => answer_bad(b, out),
+    }
 }
 
 // The reply to one whole message of kind 1, 3, 4 or 12 at the front of out, and how long it is; 0 where out is shorter
@@ -181,8 +148,7 @@ pub fn answer(b: &mut [u64], msg: &[u8], out: &mut [u8]) -> usize
     ensures { Answers (answer_on b.old msg.now out.old) result b.new
         out.new }
 {
-    let kind = kind_of(msg);
-    match kind {
+    match kind_of(msg) {
         HEAD => answer_gossip(b, msg, out),
         TAP => answer_tap(b, msg, out),
         QUESTION => answer_question(b, msg, out),
@@ -194,24 +160,16 @@ pub fn answer(b: &mut [u64], msg: &[u8], out: &mut [u8]) -> usize
 pub fn reply_room(msg: &[u8]) -> usize
     ensures { result ≡ room_for msg.now }
 {
-    let kind = kind_of(msg);
-    let room = room_of(kind);
-    if room == 0 {
-        return REFUSAL_ROOM;
-    }
-    room
+    room_of(kind_of(msg)).unwrap_or(REFUSAL_ROOM)
 }
 
 // Kind 11's bytes open the lent book.
-pub fn open_from(b: &mut [u64], msg: &[u8]) -> Opening
+pub fn open_from(b: &mut [u64], msg: &[u8]) -> Result<(), Refusal>
     ensures { Opens (open_from b.old msg.now) result b.new }
 {
     if b.len() != BOOK {
-        return Opening::Refused(UNSOUND);
+        return Err(Refusal::Unsound);
     }
-    let said = read_open(msg);
-    let Said::Open { screen, screens } = said else {
-        return Opening::Refused(BAD);
-    };
-    open(b, screen, screens)
+    let opening = read_open(msg)?;
+    open(b, opening.screen, opening.screens)
 }

@@ -4,13 +4,13 @@ use native.Mathlib.Numerals.{add-one}
 use native.Mathlib.Omega.{arith}
 use mathlib.Core.Path.{◌≡◌, sym, ap, ap₂, subst, ◌∙◌}
 use mathlib.Core.Logic.{◌≢◌}
-use mathlib.Core.Bool.{true, false, not}
+use mathlib.Core.Bool.{Bool, true, false, not}
 use mathlib.Core.List.{List, [], ◌∷◌, ◌++◌, map, append-nil}
 use lib.Dec.{T, leb}
 use lib.ListN.{length, get_or, take, drop, drop_of_length-le, length-append}
 use lib.Seq.{take_all, take-suc, drop-cons}
 use Rattle.limits.specs.Limits.{parts}
-use Rattle.lists.specs.TestLaws.{and_r, bit, is_true, keep-length}
+use Rattle.lists.specs.TestLaws.{clash, and_r, bit, is_true, keep-length}
 use Rattle.lists.specs.Order.{rising}
 use Rattle.lists.specs.Tests.{all_below, every, keep}
 use Rattle.stamp.specs.Parts.{parts_at, list_of}
@@ -28,7 +28,9 @@ use Rattle.log_edit.specs.OrderLaws.{keep_append}
 use Rattle.wire.specs.Kinds.{Kind, record_kind, tap_at, head_long, record_long}
 use Rattle.wire.proofs.Laws.{lawful_record}
 use Rattle.wire.specs.Read.{line_of, readable, read_as}
-use Rattle.wire.proofs.ReadLaws.{told_line}
+use Rattle.wire.proofs.ReadLaws.{told_line, unread}
+use Rattle.wire.specs.declared.Refusal.{Refusal}
+use Rattle.std.specs.Prelude.{Ok, Err}
 use Rattle.wire.specs.Says.{Said}
 use Rattle.wire.specs.Says as said
 use Rattle.message.specs.Find.{part_at}
@@ -67,21 +69,15 @@ module _ (bytes : List ℕ) (n : ℕ) (m : Stamp) (h : Head bytes n m) (i : ℕ)
   readable-at : T (readable (record_kind n m) (part_at i bytes))
   readable-at = subst (λ (k : Kind). T (readable k (part_at i bytes))) kind_in_lem (record-held bytes h.formed i l).0
 
-  pub never_other :
-      (v : Said) → v ≡ read_as (record_kind n m) (part_at i bytes)
-      → ((o q : ℕ) (p : Parts) (t : Tap) → v ≢ said.Record o q p t) → ⊥
-  unfolding read_as record_kind
-  never_other v read other =
-      let line = line_of (record_kind n m) (part_at i bytes) in
-      let e : v ≡ said.Record (get_or line 1 0) (get_or line 2 0) (parts_at 3 line) (tap_at (3 + parts) line) = read
-      ∙ rw (is_true (readable (record_kind n m) (part_at i bytes)) readable-at) in
-      other (get_or line 1 0) (get_or line 2 0) (parts_at 3 line) (tap_at (3 + parts) line) e
+  pub never_refused : (r : Refusal) → Err r ≡ read_as (record_kind n m) (part_at i bytes) → ⊥
+  never_refused r read = clash (readable (record_kind n m) (part_at i bytes)) readable-at
+      (subst (λ (b : Bool). T (not b)) (sym (unread (record_kind n m) (part_at i bytes) r read).0) tt)
 
-  module _ (o q : ℕ) (p : Parts) (t : Tap) (read : said.Record o q p t ≡ read_as (record_kind n m) (part_at i bytes))
+  module _ (o q : ℕ) (p : Parts) (t : Tap) (read : Ok (said.Record o q p t) ≡ read_as (record_kind n m) (part_at i bytes))
     where
       line_at : line_of (record_kind n m) (part_at i bytes) ≡ 2 ∷ o ∷ q ∷ list_of p ++ fields t
       line_at =
-          told_line (record_kind n m) (part_at i bytes) (said.Record o q p t) read (lawful_record n m) (omega arith)
+          told_line (record_kind n m) (part_at i bytes) (said.Record o q p t) read (lawful_record n m)
 
       pub tap-bits : FitsBits t
       unfolding list_of

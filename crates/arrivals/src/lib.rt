@@ -20,7 +20,6 @@ use log_edit::slide_in;
 use message::record_at;
 use stamp::{Parts, list_of};
 use tally::pack;
-use wire::Said;
 
 // The row of record i. The head has n screens and stamp m.
 fn row_for(msg: &[u8], i: usize, n: usize, m: Parts) -> [u64; ROW]
@@ -28,17 +27,10 @@ fn row_for(msg: &[u8], i: usize, n: usize, m: Parts) -> [u64; ROW]
     requires i_bound { i < count_in msg.now }
     ensures { record_at result ≡ record_no msg.now i }
 {
-    let next = record_at(msg, i, n, m);
-    let Said::Record {
-        origin,
-        number,
-        label,
-        tap,
-    } = next
-    else {
+    let Ok(record) = record_at(msg, i, n, m) else {
         return [0u64; ROW];
     };
-    make_row(origin, number, label, pack(tap))
+    make_row(record.origin, record.number, record.label, pack(record.tap))
 }
 
 // One pass over the records: how far the numbers of each origin go without a gap from those reached, written over them.

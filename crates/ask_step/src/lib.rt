@@ -12,9 +12,10 @@ ghost use Rattle.lent.specs.Words.{book_of, lawful};
 ghost use Rattle.promise.specs.Spoken.{spoken};
 
 use lent::{known_of, screen_of, standing_of, value_of};
-use promise::{Reply, UNKNOWN_LABEL};
+use promise::Reply;
 use stamp::{Parts, at_most, lacking, list_of, part_at, part_of};
 use tally::verdict_of;
+use wire::{Question, Refusal, Verdict};
 
 // Whether the label's part i exceeds the known stamp's.
 pub fn label_unknown(b: &[u64], label: Parts) -> bool
@@ -29,27 +30,27 @@ pub fn label_unknown(b: &[u64], label: Parts) -> bool
 }
 
 // A question on a prompt, at a label.
-pub fn ask_book(b: &[u64], prompt: u64, label: Parts) -> Reply
-    requires t { T (lawful b.now) }
-    requires prompt_lt_prompt_count { prompt < prompt_count }
-    requires t_2 { T (stamp_fits (book_of b.now).screens (list_of label)) }
-    ensures { spoken result ≡ (ask (book_of b.now) prompt (list_of label)).reply }
+pub fn ask_book(b: &[u64], question: Question) -> Reply
+    requires sound { T (lawful b.now) }
+    requires prompt_fits { question.prompt < prompt_count }
+    requires label_fits { T (stamp_fits (book_of b.now).screens (list_of question.label)) }
+    ensures { spoken result ≡ (ask (book_of b.now) question.prompt (list_of question.label)).reply }
 {
-    if label_unknown(b, label) {
-        return Reply::Refused(UNKNOWN_LABEL);
+    if label_unknown(b, question.label) {
+        return Reply::Refused(Refusal::UnknownLabel);
     }
     let value = value_of(b);
-    let asked = list_of(label);
+    let asked = list_of(question.label);
     let covered = list_of(value);
     if !at_most(&asked, &covered) {
         return Reply::Wait(lacking(&asked, &covered));
     }
-    let s = standing_of(b, prompt);
-    Reply::Verdict {
+    let s = standing_of(b, question.prompt);
+    Reply::Verdict(Verdict {
         verdict: verdict_of(s),
         showing: s.showing,
         accepts: s.accepts,
         declines: s.declines,
-        value: value,
-    }
+        value,
+    })
 }

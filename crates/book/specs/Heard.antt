@@ -5,7 +5,7 @@
 --     owes-step      what the step on the book that the slice holds gives
 use Prim.Native.Nat.{ℕ, ◌<◌}
 use Rattle.std.proofs.Common.{arith, ap₂, ◌∙◌, ltb→lt}
-use Rattle.std.specs.Prelude.{◌≡◌, refl, Bool, true, false, ◌&&◌, cond, ltb}
+use Rattle.std.specs.Prelude.{◌≡◌, refl, Bool, true, false, ◌&&◌, cond, ltb, Ok, Err}
 use Rattle.std.proofs.Math.Path.{sym, ap, subst}
 use mathlib.Core.List.{List, ◌∷◌}
 use Rattle.std.proofs.Math.Option.{Option, none, some, some-ne-none}
@@ -22,20 +22,18 @@ use Rattle.tally.specs.declared.Tap.{Tap}
 use Rattle.wire.specs.Kinds.{shaped, tap_at, stamp_at, tap_kind, question_kind}
 use Rattle.wire.specs.Read.{line_of, readable, read_as}
 use Rattle.wire.proofs.ReadLaws.{told}
-use Rattle.wire.specs.Write.{Output, Meets, refuse}
-use Rattle.wire.specs.Says as said
-use Rattle.wire.specs.declared.Written.{Written}
-use Rattle.wire.specs.declared.Written.TheVariants.{Refused}
+use Rattle.wire.specs.Write.{Written, Output, Meets, refuse}
+use Rattle.wire.specs.Says.{head_says, tap_says, question_says}
+use Rattle.wire.specs.declared.Refusal.TheVariants.{Bad, Unsound}
+use Rattle.wire.specs.declared.Head as gossiping
+use Rattle.wire.specs.declared.Question as asking
+use Rattle.wire.specs.declared.TapRequest as tapping
 use Rattle.wire.specs.Head.{head_line}
 use Rattle.message.specs.Message.{well_formed, message_of, read_gossip, message_bytes}
 use Rattle.message.specs.Told.{gossip-told, head_in}
-use Rattle.tap_step.specs.Stop.{StopsTap}
-use Rattle.tap_step.specs.declared.TapStop.{TapStop}
-use Rattle.tap_step.specs.declared.TapStop.TheVariants as tapped
-use Rattle.gossip_step.specs.Heard.{Heard}
-use Rattle.gossip_step.specs.Stop.{StopsGossip}
-use Rattle.gossip_step.specs.declared.GossipStop.{GossipStop}
-use Rattle.gossip_step.specs.declared.GossipStop.TheVariants as gossiped
+use Rattle.tap_step.specs.Stop.{TapStop, StopsTap}
+use Rattle.gossip_step.specs.Heard.{Hears}
+use Rattle.gossip_step.specs.Stop.{GossipStop, StopsGossip}
 use Rattle.meaning.proofs.AnswerLaws.{ask-keeps}
 use Rattle.meaning.specs.Reply.{Reply, refusal}
 use Rattle.meaning.specs.Step.{Outcome, tap_stops, tap_step, ask, send, gossip_stops, gossip_step}
@@ -51,8 +49,8 @@ use Rattle.promise.specs.declared.Reply.TheVariants as says
 use Rattle.book.specs.Stop.{TapStopOn, GossipStopOn}
 
 module _ (ws : List ℕ) where
-  pub owes_unsound : lawful ws ≡ false → (o : Outcome) → Promise (on_book ws o) (says.Refused 11) ws
-  owes_unsound e o = subst (λ (l : Lent). Promise l (says.Refused 11) ws)
+  pub owes_unsound : lawful ws ≡ false → (o : Outcome) → Promise (on_book ws o) (says.Refused Unsound) ws
+  owes_unsound e o = subst (λ (l : Lent). Promise l (says.Refused Unsound) ws)
       (ap (λ (c : Bool). cond c (lent_of o) (record { reply = refusal 11; words = ws })) (sym e))
       (record { answers = refl; leaves = refl })
 
@@ -74,7 +72,7 @@ module _ (ws : List ℕ) where
     stop-read c t stop = stop-sound c stop ∙ ap (λ (d : Bool). cond d stop (some (refusal 1))) (is_true c t)
 
     pub owes_unread : (c : Bool) → c ≡ false → (o : Outcome)
-        → Promise (on_book ws (heard c (book_of ws) o)) (says.Refused 1) ws
+        → Promise (on_book ws (heard c (book_of ws) o)) (says.Refused Bad) ws
     owes_unread c f o =
         let q : on_book ws (heard c (book_of ws) o)
         ≡ lent_of (record { reply = refusal 1; book = book_of ws }) = on-sound (heard c (book_of ws) o)
@@ -109,18 +107,18 @@ owes_stop o r ws e = record
     { answers = sym (ap (λ (l : Lent). l.reply) e); leaves = sym (ap (λ (l : Lent). l.words) e) }
 
 -- a tap's bytes that are read
-module _ (ws bytes : List ℕ) (t : Tap) (l : Parts) (e : lawful ws ≡ true)
-    (read : said.Tap t l ≡ read_as (tap_kind (book_of ws).screens) bytes) where
+module _ (ws bytes : List ℕ) (a : tapping.TapRequest) (e : lawful ws ≡ true)
+    (read : Ok (tap_says a) ≡ read_as (tap_kind (book_of ws).screens) bytes) where
   tap-told : T (readable (tap_kind (book_of ws).screens) bytes)
-      × (said.Tap t l ≡ (tap_kind (book_of ws).screens).said (line_of (tap_kind (book_of ws).screens) bytes))
-  tap-told = told (tap_kind (book_of ws).screens) bytes (said.Tap t l) read (omega arith)
+      × (tap_says a ≡ (tap_kind (book_of ws).screens).said (line_of (tap_kind (book_of ws).screens) bytes))
+  tap-told = told (tap_kind (book_of ws).screens) bytes (tap_says a) read
 
-  tap_is : (t ≡ tap_at 1 (line_of (tap_kind (book_of ws).screens) bytes))
-      × (l ≡ parts_at 6 (line_of (tap_kind (book_of ws).screens) bytes))
+  tap_is : (a.tap ≡ tap_at 1 (line_of (tap_kind (book_of ws).screens) bytes))
+      × (a.label ≡ parts_at 6 (line_of (tap_kind (book_of ws).screens) bytes))
   unfolding tap_kind
   tap_is = let q = tap-told.1 in (cc, cc)
 
-  pub tap-fits : T (tap_fits t) × T (stamp_fits (book_of ws).screens (list_of l))
+  pub tap-fits : T (tap_fits a.tap) × T (stamp_fits (book_of ws).screens (list_of a.label))
   unfolding readable tap_kind
   tap-fits =
       let line = line_of (tap_kind (book_of ws).screens) bytes in
@@ -134,26 +132,30 @@ module _ (ws bytes : List ℕ) (t : Tap) (l : Parts) (e : lawful ws ≡ true)
       )
 
   -- what stops the tap on the book stops it on the words
-  pub tap-stopped-on : (r : TapStop) → StopsTap (book_of ws) t l r → TapStopOn ws bytes r
+  pub tap-stopped-on : (r : TapStop) → StopsTap (book_of ws) a r → TapStopOn ws bytes r
   unfolding tap_stop
   tap-stopped-on r q = go r q
     where
       line : List ℕ
       line = line_of (tap_kind (book_of ws).screens) bytes
 
-      stops : tap_stop ws bytes ≡ first_of (tap_stops (book_of ws) t (list_of l))
+      stops : tap_stop ws bytes ≡ first_of (tap_stops (book_of ws) a.tap (list_of a.label))
       stops =
           stop-read ws e (readable (tap_kind (book_of ws).screens) bytes) tap-told.0
           (first_of (tap_stops (book_of ws) (tap_at 1 line) (stamp_at 6 line)))
           ∙ ap₂ (λ (x : Tap) (y : Parts). first_of (tap_stops (book_of ws) x (list_of y))) (sym tap_is.0)
           (sym tap_is.1)
 
-      go : (r : TapStop) → StopsTap (book_of ws) t l r → TapStopOn ws bytes r
-      go (tapped.Stopped x) q = stops ∙ q
-      go (tapped.Clear u m) q = (stops ∙ q.0, q.1 ∙ tap_is.0, q.2 ∙ tap_is.1)
+      go : (r : TapStop) → StopsTap (book_of ws) a r → TapStopOn ws bytes r
+      go (Err x) q = stops ∙ q
+      go (Ok t) q = (
+        stops ∙ q.0,
+        ap (λ (x : tapping.TapRequest). x.tap) q.1 ∙ tap_is.0,
+        ap (λ (x : tapping.TapRequest). x.label) q.1 ∙ tap_is.1,
+      )
 
 -- a tap that nothing stops
-module _ (ws bytes : List ℕ) (t : Tap) (l : Parts) (c : TapStopOn ws bytes (tapped.Clear t l)) where
+module _ (ws bytes : List ℕ) (a : tapping.TapRequest) (c : TapStopOn ws bytes (Ok a)) where
   abbrev tap-line : List ℕ
   tap-line = line_of (tap_kind (book_of ws).screens) bytes
 
@@ -164,35 +166,35 @@ module _ (ws bytes : List ℕ) (t : Tap) (l : Parts) (c : TapStopOn ws bytes (ta
   tap_clears = all-clear ws (readable (tap_kind (book_of ws).screens) bytes)
       (first_of (tap_stops (book_of ws) (tap_at 1 tap-line) (stamp_at 6 tap-line))) c.0
 
-  pub tap_may : T (lawful ws) × (first_of (tap_stops (book_of ws) t (list_of l)) ≡ none)
+  pub tap_may : T (lawful ws) × (first_of (tap_stops (book_of ws) a.tap (list_of a.label)) ≡ none)
   tap_may = (
     subst T (sym tap_clears.0) tt,
     ap₂ (λ (x : Tap) (y : Parts). first_of (tap_stops (book_of ws) x (list_of y))) c.1 c.2 ∙ tap_clears.2,
   )
 
-  pub tap-owes : (r : answer.Reply) (w : List ℕ) → Promise (lent_of (tap_step (book_of ws) t (list_of l))) r w
+  pub tap-owes : (r : answer.Reply) (w : List ℕ) → Promise (lent_of (tap_step (book_of ws) a.tap (list_of a.label))) r w
       → Promise (tap_on ws bytes) r w
   unfolding tap_on
   tap-owes r w p =
       owes-step ws tap_clears.0 (readable (tap_kind (book_of ws).screens) bytes) tap_clears.1
       (tap_step (book_of ws) (tap_at 1 tap-line) (stamp_at 6 tap-line)) r w
       (subst (λ (x : Tap). Promise (lent_of (tap_step (book_of ws) x (stamp_at 6 tap-line))) r w) c.1
-      (subst (λ (x : Parts). Promise (lent_of (tap_step (book_of ws) t (list_of x))) r w) c.2 p))
+      (subst (λ (x : Parts). Promise (lent_of (tap_step (book_of ws) a.tap (list_of x))) r w) c.2 p))
 
 -- a question's bytes that are read
-module _ (ws bytes : List ℕ) (p : ℕ) (l : Parts) (e : lawful ws ≡ true)
-    (read : said.Question p l ≡ read_as (question_kind (book_of ws).screens) bytes) where
+module _ (ws bytes : List ℕ) (a : asking.Question) (e : lawful ws ≡ true)
+    (read : Ok (question_says a) ≡ read_as (question_kind (book_of ws).screens) bytes) where
   question-told : T (readable (question_kind (book_of ws).screens) bytes)
-      × (said.Question p l ≡ (question_kind (book_of ws).screens).said
+      × (question_says a ≡ (question_kind (book_of ws).screens).said
       (line_of (question_kind (book_of ws).screens) bytes))
-  question-told = told (question_kind (book_of ws).screens) bytes (said.Question p l) read (omega arith)
+  question-told = told (question_kind (book_of ws).screens) bytes (question_says a) read
 
-  question_is : (p ≡ get_or (line_of (question_kind (book_of ws).screens) bytes) 1 0)
-      × (l ≡ parts_at 2 (line_of (question_kind (book_of ws).screens) bytes))
+  question_is : (a.prompt ≡ get_or (line_of (question_kind (book_of ws).screens) bytes) 1 0)
+      × (a.label ≡ parts_at 2 (line_of (question_kind (book_of ws).screens) bytes))
   unfolding question_kind
   question_is = let q = question-told.1 in (cc, cc)
 
-  pub question-fits : (p < prompt_count) × T (stamp_fits (book_of ws).screens (list_of l))
+  pub question-fits : (a.prompt < prompt_count) × T (stamp_fits (book_of ws).screens (list_of a.label))
   unfolding readable question_kind
   question-fits =
       let line = line_of (question_kind (book_of ws).screens) bytes in
@@ -206,28 +208,28 @@ module _ (ws bytes : List ℕ) (p : ℕ) (l : Parts) (e : lawful ws ≡ true)
             (and_r (ltb (get_or line 1 0) prompt_count) (stamp_fits (book_of ws).screens (stamp_at 2 line)) kept),
       )
 
-  pub question-owes : (r : answer.Reply) → spoken r ≡ (ask (book_of ws) p (list_of l)).reply
+  pub question-owes : (r : answer.Reply) → spoken r ≡ (ask (book_of ws) a.prompt (list_of a.label)).reply
       → Promise (question_on ws bytes) r ws
   unfolding question_on
-  question-owes r a =
+  question-owes r spoken-as =
       let line = line_of (question_kind (book_of ws).screens) bytes in
       owes-step ws e (readable (question_kind (book_of ws).screens) bytes)
       (is_true (readable (question_kind (book_of ws).screens) bytes) question-told.0)
       (ask (book_of ws) (get_or line 1 0) (stamp_at 2 line)) r ws
       (subst (λ (x : ℕ). Promise (lent_of (ask (book_of ws) x (stamp_at 2 line))) r ws) question_is.0
-      (subst (λ (x : Parts). Promise (lent_of (ask (book_of ws) p (list_of x))) r ws) question_is.1
+      (subst (λ (x : Parts). Promise (lent_of (ask (book_of ws) a.prompt (list_of x))) r ws) question_is.1
       (record {
-        answers = a;
+        answers = spoken-as;
         leaves = sym (lawful-held ws (subst T (sym e) tt)).words
-            ∙ sym (ap words_of (ask-keeps (book_of ws) p (list_of l)));
+            ∙ sym (ap words_of (ask-keeps (book_of ws) a.prompt (list_of a.label)));
       })))
 
 -- what send owes
-pub send-owes_unsound : (ws out : List ℕ) → lawful ws ≡ false → Meets (send_on ws out) (Refused 11) out
+pub send-owes_unsound : (ws out : List ℕ) → lawful ws ≡ false → Meets (send_on ws out) (Err Unsound) out
 unfolding send_on
 send-owes_unsound ws out e =
-    subst (λ (o : Output). Meets o (Refused 11) out)
-    (ap (λ (c : Bool). cond c (put_front (message_bytes (send (book_of ws))) out) (refuse 11 out)) (sym e))
+    subst (λ (o : Output). Meets o (Err Unsound) out)
+    (ap (λ (c : Bool). cond c (put_front (message_bytes (send (book_of ws))) out) (refuse Unsound out)) (sym e))
     (record { answers = refl; leaves = refl })
 
 pub send-owes : (ws out : List ℕ) → lawful ws ≡ true → (r : Written) (w : List ℕ)
@@ -235,16 +237,16 @@ pub send-owes : (ws out : List ℕ) → lawful ws ≡ true → (r : Written) (w 
 unfolding send_on
 send-owes ws out e r w m =
     subst (λ (o : Output). Meets o r w)
-    (ap (λ (c : Bool). cond c (put_front (message_bytes (send (book_of ws))) out) (refuse 11 out)) (sym e)) m
+    (ap (λ (c : Bool). cond c (put_front (message_bytes (send (book_of ws))) out) (refuse Unsound out)) (sym e)) m
 
 -- a gossip's bytes that are read
-module _ (ws bytes : List ℕ) (sender screens count : ℕ) (m : Parts) (e : lawful ws ≡ true)
-    (read : said.Head sender screens count m ≡ read_gossip bytes) where
-  gossip-line : T (well_formed bytes) × (head_line bytes ≡ 1 ∷ sender ∷ screens ∷ count ∷ list_of m)
-  gossip-line = let t = gossip-told bytes (said.Head sender screens count m) read (omega arith) in
-      (t.0, head_in bytes sender screens count m t.1)
+module _ (ws bytes : List ℕ) (a : gossiping.Head) (e : lawful ws ≡ true)
+    (read : Ok (head_says a) ≡ read_gossip bytes) where
+  gossip-line : T (well_formed bytes) × (head_line bytes ≡ 1 ∷ a.sender ∷ a.screens ∷ a.count ∷ list_of a.stamp)
+  gossip-line = let t = gossip-told bytes (head_says a) read in
+      (t.0, head_in bytes a.sender a.screens a.count a.stamp t.1)
 
-  pub gossip-heard : Heard bytes sender screens count (list_of m)
+  pub gossip-heard : Hears bytes a
   unfolding parts_at list_of
   gossip-heard =
       let h = gossip-line.1 in
@@ -259,18 +261,16 @@ module _ (ws bytes : List ℕ) (sender screens count : ℕ) (m : Parts) (e : law
       }
 
   -- what stops the gossip on the book stops it on the words
-  pub gossip-stopped-on : (r : GossipStop) → StopsGossip (book_of ws) (message_of bytes) sender screens count m r
-      → GossipStopOn ws bytes r
+  pub gossip-stopped-on : (r : GossipStop) → StopsGossip (book_of ws) (message_of bytes) a r → GossipStopOn ws bytes r
   unfolding gossip_stop
   gossip-stopped-on r q = go r q
     where
       stops : gossip_stop ws bytes ≡ first_of (gossip_stops (book_of ws) (message_of bytes))
       stops = stop-read ws e (well_formed bytes) gossip-line.0 (first_of (gossip_stops (book_of ws) (message_of bytes)))
 
-      go : (r : GossipStop) → StopsGossip (book_of ws) (message_of bytes) sender screens count m r
-          → GossipStopOn ws bytes r
-      go (gossiped.Stopped x) q = stops ∙ q
-      go (gossiped.Clear j n c p new) q = (stops ∙ q.0, rw (q.1, q.2, q.3, q.4) gossip-heard, q.5)
+      go : (r : GossipStop) → StopsGossip (book_of ws) (message_of bytes) a r → GossipStopOn ws bytes r
+      go (Err x) q = stops ∙ q
+      go (Ok i) q = (stops ∙ q.0, subst (Hears bytes) (sym q.1) gossip-heard, q.2)
 
 -- a gossip that nothing stops
 module _ (ws bytes : List ℕ) (c : gossip_stop ws bytes ≡ none) where

@@ -7,46 +7,42 @@ ghost use Rattle.wire.specs.Write.{Meets};
 ghost use Rattle.book.specs.Stop.{TapStopOn, GossipStopOn};
 
 use ask_step::ask_book;
-use gossip_step::{GossipStop, stop_gossip, take_gossip};
+use gossip_step::{Incoming, stop_gossip, take_gossip};
 use lent::screens_of;
 use message::read_gossip;
-use open_step::{Opening, open_book};
-use promise::{Reply, UNSOUND};
+use open_step::open_book;
+use promise::Reply;
 use requests::{read_question, read_tap};
 use send_step::send_book;
 use soundness::sound;
-use tap_step::{TapStop, stop_tap, take_tap};
-use wire::{BAD, Said, Written};
+use tap_step::{stop_tap, take_tap};
+use wire::{Refusal, TapRequest};
 
-// The fresh book of screen i of n, or the refusal's number.
-pub fn open(b: &mut [u64], i: u64, n: u64) -> Opening
+// The fresh book of screen i of n, or why there is none.
+pub fn open(b: &mut [u64], i: u64, n: u64) -> Result<(), Refusal>
     ensures { Opens (open_on b.old i n) result b.new }
 {
     open_book(b, i, n)
 }
 
-// What stops a tap, judged before any word changes; or the tap and the label that its bytes hold.
-pub fn tap_stop(b: &[u64], msg: &[u8]) -> TapStop
+// The tap and the label that the bytes hold, where it may be taken; or the reply that stops it, judged before any word
+// changes.
+pub fn tap_stop(b: &[u64], msg: &[u8]) -> Result<TapRequest, Reply>
     ensures { TapStopOn b.now msg.now result }
 {
     if !sound(b) {
-        return TapStop::Stopped(Reply::Refused(UNSOUND));
+        return Err(Reply::Refused(Refusal::Unsound));
     }
-    let n = screens_of(b) as usize;
-    let said = read_tap(msg, n);
-    let Said::Tap { tap, label } = said else {
-        return TapStop::Stopped(Reply::Refused(BAD));
-    };
-    stop_tap(b, tap, label)
+    let asked = read_tap(msg, screens_of(b) as usize)?;
+    stop_tap(b, asked)
 }
 
 pub fn tap(b: &mut [u64], msg: &[u8]) -> Reply
     ensures { Promise (tap_on b.old msg.now) result b.new }
 {
-    let stop = tap_stop(b, msg);
-    match stop {
-        TapStop::Stopped(reply) => reply,
-        TapStop::Clear { tap, label } => take_tap(b, tap, label),
+    match tap_stop(b, msg) {
+        Ok(asked) => take_tap(b, asked),
+        Err(reply) => reply,
     }
 }
 
@@ -55,58 +51,41 @@ pub fn question(b: &[u64], msg: &[u8]) -> Reply
     ensures { Promise (question_on b.now msg.now) result b.now }
 {
     if !sound(b) {
-        return Reply::Refused(UNSOUND);
+        return Reply::Refused(Refusal::Unsound);
     }
-    let n = screens_of(b) as usize;
-    let said = read_question(msg, n);
-    let Said::Question { prompt, label } = said else {
-        return Reply::Refused(BAD);
-    };
-    ask_book(b, prompt, label)
+    match read_question(msg, screens_of(b) as usize) {
+        Ok(question) => ask_book(b, question),
+        Err(refusal) => Reply::Refused(refusal),
+    }
 }
 
 // The known stamp and the whole log as one gossip message at the front of out; the rest of out stays.
-pub fn send(b: &[u64], out: &mut [u8]) -> Written
+pub fn send(b: &[u64], out: &mut [u8]) -> Result<usize, Refusal>
     ensures { Meets (send_on b.now out.old) result out.new }
 {
     if !sound(b) {
-        return Written::Refused(UNSOUND);
+        return Err(Refusal::Unsound);
     }
     send_book(b, out)
 }
 
-// What stops a gossip, judged before any word changes; or its head and how many of its records are new.
-pub fn gossip_stop(b: &[u64], msg: &[u8]) -> GossipStop
+// The gossip's head and how many of its records are new, where it may be taken; or the reply that stops it, judged
+// before any word changes.
+pub fn gossip_stop(b: &[u64], msg: &[u8]) -> Result<Incoming, Reply>
     ensures { GossipStopOn b.now msg.now result }
 {
     if !sound(b) {
-        return GossipStop::Stopped(Reply::Refused(UNSOUND));
+        return Err(Reply::Refused(Refusal::Unsound));
     }
-    let said = read_gossip(msg);
-    let Said::Head {
-        sender,
-        screens,
-        count,
-        stamp,
-    } = said
-    else {
-        return GossipStop::Stopped(Reply::Refused(BAD));
-    };
-    stop_gossip(b, msg, sender, screens, count, stamp)
+    let head = read_gossip(msg)?;
+    stop_gossip(b, msg, head)
 }
 
 pub fn gossip(b: &mut [u64], msg: &[u8]) -> Reply
     ensures { Promise (gossip_on b.old msg.now) result b.new }
 {
-    let stop = gossip_stop(b, msg);
-    match stop {
-        GossipStop::Stopped(reply) => reply,
-        GossipStop::Clear {
-            sender,
-            screens,
-            count,
-            stamp,
-            new,
-        } => take_gossip(b, msg, sender, screens, count, stamp, new),
+    match gossip_stop(b, msg) {
+        Ok(incoming) => take_gossip(b, msg, incoming),
+        Err(reply) => reply,
     }
 }

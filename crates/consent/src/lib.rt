@@ -13,7 +13,6 @@ ghost use Rattle.consent.specs.Numbered.{OpensAs};
 use answer::{answer, reply_room};
 use book::open;
 use lent::BOOK;
-use open_step::Opening;
 use permission::permission;
 use replies::reply_kind;
 
@@ -31,10 +30,9 @@ pub fn consent_book_words() -> usize
 pub fn consent_open(book: &mut [u64], screen: u64, screens: u64) -> u64
     ensures { OpensAs (open_on book.old screen screens) result book.new }
 {
-    let opening = open(book, screen, screens);
-    match opening {
-        Opening::Opened => OPENED,
-        Opening::Refused(number) => number,
+    match open(book, screen, screens) {
+        Ok(()) => OPENED,
+        Err(refusal) => refusal.number(),
     }
 }
 

@@ -5,8 +5,8 @@ use Rattle.limits.specs.KindNumbers.{head_number, open_number}
 use Rattle.wire.specs.Head.{count_in}
 use Rattle.wire.specs.Kinds.{body_by, head_long, record_long}
 use Rattle.wire.specs.Requests.{is_request}
-use Rattle.wire.specs.declared.BodyLength.{BodyLength}
-use Rattle.wire.specs.declared.BodyLength.TheVariants.{Long, Bad}
+use Rattle.std.specs.Prelude.{Result, Ok, Err}
+use Rattle.wire.specs.declared.Refusal.{Refusal}
 use Rattle.frames.specs.declared.Frame.{Frame}
 use Rattle.frames.specs.declared.Frame.TheVariants.{More, Whole, Stop}
 
@@ -25,9 +25,9 @@ gossip_frame read =
     (cond (ltb log_room (count_in read)) Stop (Whole (head_long + count_in read * record_long)))
 
 -- of every other kind: one byte of kind, and the kind fixes the body's length
-abbrev pub body_frame : BodyLength → Frame
-body_frame (Long n) = Whole (1 + n)
-body_frame (Bad r) = Stop
+abbrev pub body_frame : Result ℕ Refusal → Frame
+body_frame (Ok n) = Whole (1 + n)
+body_frame (Err r) = Stop
 
 abbrev pub kind_frame : ℕ → List ℕ → Frame
 kind_frame k read = cond (eqb k head_number) (gossip_frame read) (body_frame (body_by k))

@@ -11,8 +11,8 @@ use Rattle.limits.specs.LimitLaws.{log-some}
 use Rattle.limits.specs.Limits.{log_room}
 use Rattle.wire.specs.Kinds.{body_by, head_long, longest, record_long}
 use Rattle.wire.proofs.Laws.{body-few}
-use Rattle.wire.specs.declared.BodyLength.{BodyLength}
-use Rattle.wire.specs.declared.BodyLength.TheVariants.{Long, Bad}
+use Rattle.std.specs.Prelude.{Result, Ok, Err}
+use Rattle.wire.specs.declared.Refusal.{Refusal}
 use Rattle.frames.specs.declared.Frame.{Frame}
 use Rattle.frames.specs.declared.Frame.TheVariants.{More, Whole, Stop}
 use Rattle.wire.specs.Head.{count_in, count-place}
@@ -77,16 +77,16 @@ gossip-long read n = go (ltb (length read) count_end) (ltb log_room (count_in re
         (omega arith, omega (arith, ltb-false log_room (count_in read) s))
 
 -- the other kinds
-pub body-settled : (b : BodyLength) (n : ℕ) → body_frame b ≡ More n → ⊥
-body-settled (Long m) n e = let z : ◌≡◌ {A = ℕ} 0 1 = cc in omega arith
-body-settled (Bad r) n e = let z : ◌≡◌ {A = ℕ} 0 1 = cc in omega arith
+pub body-settled : (b : Result ℕ Refusal) (n : ℕ) → body_frame b ≡ More n → ⊥
+body-settled (Ok m) n e = let z : ◌≡◌ {A = ℕ} 0 1 = cc in omega arith
+body-settled (Err r) n e = let z : ◌≡◌ {A = ℕ} 0 1 = cc in omega arith
 
 body-long : (k n : ℕ) → body_frame (body_by k) ≡ Whole n → (1 ≤ n) × (n ≤ longest)
 body-long k n = go (body_by k) refl
   where
-    go : (b : BodyLength) → body_by k ≡ b → body_frame b ≡ Whole n → (1 ≤ n) × (n ≤ longest)
-    go (Long m) s e = let z : 1 + m ≡ n = cc in (omega arith, omega (arith, log-some, body-few k m s))
-    go (Bad r) s e = let z : ◌≡◌ {A = ℕ} 0 1 = cc in absurd (omega arith)
+    go : (b : Result ℕ Refusal) → body_by k ≡ b → body_frame b ≡ Whole n → (1 ≤ n) × (n ≤ longest)
+    go (Ok m) s e = let z : 1 + m ≡ n = cc in (omega arith, omega (arith, log-some, body-few k m s))
+    go (Err r) s e = let z : ◌≡◌ {A = ℕ} 0 1 = cc in absurd (omega arith)
 
 -- an unexpected kind, a gossip's head, or another kind
 abbrev by_kind : Bool → Bool → Frame → Frame → Frame

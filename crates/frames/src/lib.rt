@@ -8,11 +8,11 @@ ghost use Rattle.frames.specs.Next.{record_stands, records_stand, Counted, kinds
 
 use limits::log_room;
 use numbers::number_at;
-use wire::{BodyLength, HEAD, HEAD_SIZE, KIND_SIZE, OPEN, RECORD, RECORD_SIZE, body_of, room_of};
+use wire::{HEAD, HEAD_SIZE, KIND_SIZE, OPEN, RECORD, RECORD_SIZE, body_of, room_of};
 
 // At least so many bytes in all are needed to tell; the message has so many in all; or 09 01 is written, and reading
 // stops.
-#[derive(Clone, Copy)]
+#[derive(Clone, Copy, Debug, PartialEq, Eq)]
 pub enum Frame {
     More(usize),
     Whole(usize),
@@ -27,13 +27,15 @@ const COUNT_WIDTH: usize = 2;
 const COUNT_END: usize = COUNT_AT + COUNT_WIDTH;
 
 // Kind 11 comes first, then requests.
+#[tactic(auto, unfolding(crate::specs::Frame::expected, wire::specs::Requests::is_request))]
 fn is_expected(kind: u8, opened: bool) -> bool
     ensures { result ≡ expected opened kind }
 {
-    if !opened {
-        return kind == OPEN;
+    if opened {
+        room_of(kind).is_some()
+    } else {
+        kind == OPEN
     }
-    0 < room_of(kind)
 }
 
 // A head's count fixes how many records follow.
@@ -53,21 +55,19 @@ fn gossip_frame(read: &[u8]) -> Frame
 pub fn frame_of(read: &[u8], opened: bool) -> Frame
     ensures { result ≡ frame_of read.now opened }
 {
-    if read.len() == 0 {
+    let Some(&kind) = read.first() else {
         return Frame::More(KIND_SIZE);
-    }
-    let kind = read[0];
+    };
     if !is_expected(kind, opened) {
         return Frame::Stop;
     }
     if kind == HEAD {
         return gossip_frame(read);
     }
-    let body = body_of(kind);
-    let BodyLength::Long(long) = body else {
-        return Frame::Stop;
-    };
-    Frame::Whole(KIND_SIZE + long)
+    match body_of(kind) {
+        Ok(long) => Frame::Whole(KIND_SIZE + long),
+        Err(_) => Frame::Stop,
+    }
 }
 
 // Whether record k of a gossip message has its kind, as far as that byte is read.
@@ -76,10 +76,7 @@ fn record_stands(read: &[u8], k: usize) -> bool
     ensures { result ≡ record_stands read.now k }
 {
     let at = HEAD_SIZE + k * RECORD_SIZE;
-    if read.len() <= at {
-        return true;
-    }
-    read[at] == RECORD
+    read.len() <= at || read[at] == RECORD
 }
 
 // Whether each of the first records of a gossip message has its kind, as far as it is read.
@@ -87,14 +84,7 @@ fn records_stand(read: &[u8], count: usize) -> bool
     requires { count ≤ log_room }
     ensures { result ≡ records_stand count read.now }
 {
-    let mut k = count;
-    while k > 0 {
-        k -= 1;
-        if !record_stands(read, k) {
-            return false;
-        }
-    }
-    true
+    (0..count).all(|k| record_stands(read, k))
 }
 
 // Whether every piece of a message has its kind, as far as it is read.
@@ -114,15 +104,9 @@ fn kinds_stand(read: &[u8]) -> bool
 pub fn next_in(read: &[u8], opened: bool) -> Frame
     ensures { result ≡ next_of read.now opened }
 {
-    let frame = frame_of(read, opened);
-    let Frame::Whole(n) = frame else {
-        return frame;
-    };
-    if !kinds_stand(read) {
-        return Frame::Stop;
+    match frame_of(read, opened) {
+        Frame::Whole(_) if !kinds_stand(read) => Frame::Stop,
+        Frame::Whole(n) if read.len() < n => Frame::More(n),
+        frame => frame,
     }
-    if read.len() < n {
-        return Frame::More(n);
-    }
-    Frame::Whole(n)
 }

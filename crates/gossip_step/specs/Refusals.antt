@@ -1,12 +1,19 @@
 -- Why a gossip is refused, as a number: the first of the refusals' tests, in their order, that holds, and zero if none
 -- does. Assumes nothing.
-use Rattle.std.specs.Prelude.{ℕ, zero, suc, ◌+◌, not, ◌||◌, cond, eqb, ltb, length}
+use Rattle.std.specs.Prelude.{ℕ, zero, suc, ◌+◌, not, ◌||◌, cond, eqb, ltb, length, Result, Ok, Err}
 use Rattle.limits.specs.Limits.{log_room, book_room}
 use Rattle.stamp.specs.Stamp.{Stamp, part, total, merge, at_most}
 use Rattle.ledger.specs.Log.{gapless}
 use Rattle.ledger.specs.Message.{Message}
+use Rattle.wire.specs.Refusal.{table_number}
+use Rattle.wire.specs.declared.Refusal.{Refusal}
 use Rattle.meaning.specs.Book.{Book, row, known}
 use Rattle.meaning.specs.Step.{new_ones}
+
+-- what the code answers, as a number: zero where nothing is refused
+abbrev pub refused_number : Result (Unit {0}) Refusal → ℕ
+refused_number (Ok u) = 0
+refused_number (Err r) = table_number r
 
 -- the first number, unless it is zero
 abbrev pub unless : ℕ → ℕ → ℕ

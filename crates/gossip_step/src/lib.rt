@@ -8,7 +8,7 @@ ghost use Rattle.stamp.specs.Stamp.{stamp_fits, merge, total};
 ghost use Rattle.book_log.specs.Region.{stamp_long, row_long, records_at};
 ghost use Rattle.meaning.specs.Book.{row, known};
 ghost use Rattle.lent.specs.Words.{book_of, lawful, words_of};
-ghost use Rattle.gossip_step.specs.Refusals.{row_refusal, own_refusal, stamp_refusal};
+ghost use Rattle.gossip_step.specs.Refusals.{refused_number, row_refusal, own_refusal, stamp_refusal};
 ghost use Rattle.lists.specs.Part.{mid, patch};
 ghost use Rattle.stamp.specs.Parts.{list_of};
 ghost use Rattle.ledger.specs.Log.{gathered, unknowns};
@@ -22,7 +22,7 @@ ghost use Rattle.meaning.specs.Step.{now_applied, new_ones, hear_book, gossip_st
 ghost use Rattle.meaning.specs.Done.{GossipDone};
 ghost use Rattle.promise.specs.Lent.{Promise};
 ghost use Rattle.promise.specs.LentLaws.{lent_of};
-ghost use Rattle.gossip_step.specs.Heard.{Heard};
+ghost use Rattle.gossip_step.specs.Heard.{Hears};
 ghost use Rattle.gossip_step.specs.Stop.{StopsGossip};
 
 use arrivals::{look_at, merge_new};
@@ -31,12 +31,10 @@ use lent::{
     set_logged,
 };
 use limits::{PARTS, book_room, log_room};
-use promise::{AHEAD, CROSSED, GAP, NO_ROOM, OLD, Reply, SPENT, WRONG_HOUSE};
+use promise::Reply;
 use settle::settle_book;
 use stamp::{Parts, at_most, list_of, merge_into, parts_at, sum};
-
-// No refusal has this number.
-pub const NONE: u64 = 0;
+use wire::{GossipTaken, Head, Refusal};
 
 // The sum of the merged stamp's parts, in a number that holds eight of 32 bits.
 fn merged_sum(a: &[u64], m: &[u64]) -> u64
@@ -50,52 +48,49 @@ fn merged_sum(a: &[u64], m: &[u64]) -> u64
 }
 
 // A stamp against the sender's row.
-fn row_refusal(row: &[u64], m: &[u64]) -> u64
+fn row_refusal(row: &[u64], m: &[u64]) -> Result<(), Refusal>
     requires { length row.now ≡ length m.now }
-    ensures { result ≡ row_refusal row.now m.now }
+    ensures { refused_number result ≡ row_refusal row.now m.now }
 {
     if at_most(m, row) {
-        return OLD;
+        return Err(Refusal::Old);
     }
     if !at_most(row, m) {
-        return CROSSED;
+        return Err(Refusal::Crossed);
     }
-    NONE
+    Ok(())
 }
 
 // A stamp against our own.
-fn own_refusal(known: &[u64], me: usize, m: &[u64]) -> u64
+fn own_refusal(known: &[u64], me: usize, m: &[u64]) -> Result<(), Refusal>
     requires known_len { (length known.now ≡ stamp_long) × (length m.now ≡ stamp_long) × (me < stamp_long) }
     requires t { T (every (λ x. ltb x word) (merge known.now m.now)) }
-    ensures { result ≡ own_refusal known.now me m.now }
+    ensures { refused_number result ≡ own_refusal known.now me m.now }
 {
     if known[me] < m[me] {
-        return AHEAD;
+        return Err(Refusal::Ahead);
     }
     if book_room() < merged_sum(known, m) {
-        return SPENT;
+        return Err(Refusal::Spent);
     }
-    NONE
+    Ok(())
 }
 
 // The refusal that needs no record: by the head's screens and sender, then by its stamp.
-pub fn stamp_refusal(b: &[u64], sender: u64, screens: u64, m: &[u64]) -> u64
-    requires t { T (lawful b.now) }
-    requires sender_lt_screens { (sender < screens) × T (stamp_fits screens m.now) }
-    ensures { result ≡ stamp_refusal (book_of b.now) sender screens m.now }
+pub fn stamp_refusal(b: &[u64], sender: u64, screens: u64, m: &[u64]) -> Result<(), Refusal>
+    requires sound { T (lawful b.now) }
+    requires sender_fits { (sender < screens) × T (stamp_fits screens m.now) }
+    ensures { refused_number result ≡ stamp_refusal (book_of b.now) sender screens m.now }
 {
     if screens != screens_of(b) {
-        return WRONG_HOUSE;
+        return Err(Refusal::WrongHouse);
     }
     let me = screen_of(b);
     if sender == me {
-        return WRONG_HOUSE;
+        return Err(Refusal::WrongHouse);
     }
     let row = row_of(b, sender as usize);
-    let first = row_refusal(&row, m);
-    if first != NONE {
-        return first;
-    }
+    row_refusal(&row, m)?;
     let known = known_of(b);
     own_refusal(&known, me as usize, m)
 }
@@ -170,133 +165,90 @@ pub fn take_new(
     set_logged(b, logged + new);
 }
 
-// The reply that stops a gossip; or its head and the number of its new records, which may be taken.
+// A gossip that may be taken: its head, and how many of its records are new.
 #[derive(Clone, Copy)]
-pub enum GossipStop {
-    Stopped(Reply),
-    Clear {
-        sender: u64,
-        screens: u64,
-        count: u64,
-        stamp: Parts,
-        new: usize,
-    },
+pub struct Incoming {
+    pub head: Head,
+    pub new: usize,
 }
 
 // What a gossip does that nothing stops, `old` being the known stamp and `new` the number of its new records. Gives how
 // many records became applied.
-fn take_in(
-    b: &mut [u64],
-    j: usize,
-    new: usize,
-    msg: &[u8],
-    count: usize,
-    n: usize,
-    m: Parts,
-    old: &[u64; PARTS],
-) -> u64
-    requires t { T (lawful b.old) }
-    requires heard { Heard msg.now j n count (list_of m) }
+fn take_in(b: &mut [u64], msg: &[u8], incoming: Incoming, old: &[u64; PARTS]) -> u64
+    requires sound { T (lawful b.old) }
+    requires heard { Hears msg.now incoming.head }
     requires gossip_done { GossipDone (book_of b.old) (message_of msg.now) }
-    requires value { old.now ≡ known (book_of b.old) }
-    requires value_2 { new ≡ length (new_ones (book_of b.old) (message_of msg.now)) }
+    requires old_known { old.now ≡ known (book_of b.old) }
+    requires new_number { incoming.new ≡ length (new_ones (book_of b.old) (message_of msg.now)) }
     ensures b_after { b.new ≡ words_of (hear_book (book_of b.old) (message_of msg.now)) }
-    ensures value_3 { result ≡ length
+    ensures applied_number { result ≡ length
         (now_applied (book_of b.old)
         (merge (known (book_of b.old)) (message_of msg.now).stamp)
         (new_ones (book_of b.old) (message_of msg.now))) }
 {
     let before = ready_of(b);
-    let s = list_of(m);
-    raise_rows(b, j, &s);
-    take_new(b, new, msg, count, n, m, old);
+    let head = incoming.head;
+    let s = list_of(head.stamp);
+    raise_rows(b, head.sender as usize, &s);
+    take_new(
+        b,
+        incoming.new,
+        msg,
+        head.count as usize,
+        head.screens as usize,
+        head.stamp,
+        old,
+    );
     settle_book(b, &before)
 }
 
 // What stops a gossip whose stamp does not: a record that is missing, or too many that are new.
-fn stop_records(
-    b: &[u64],
-    msg: &[u8],
-    sender: u64,
-    screens: u64,
-    count: u64,
-    stamp: Parts,
-) -> GossipStop
-    requires t { T (lawful b.now) }
-    requires heard { Heard msg.now sender screens count (list_of stamp) }
-    requires stamp_value { stamp_refusal (book_of b.now) sender screens (list_of stamp) ≡ 0 }
-    ensures { StopsGossip (book_of b.now) (message_of msg.now) sender screens count
-        stamp result }
+fn stop_records(b: &[u64], msg: &[u8], head: Head) -> Result<Incoming, Reply>
+    requires sound { T (lawful b.now) }
+    requires heard { Hears msg.now head }
+    requires stamp_stands { stamp_refusal (book_of b.now) head.sender head.screens (list_of head.stamp) ≡ 0 }
+    ensures { StopsGossip (book_of b.now) (message_of msg.now) head result }
 {
     let known = known_of(b);
-    let Some(new) = look_at(msg, count as usize, screens as usize, stamp, &known) else {
-        return GossipStop::Stopped(Reply::Refused(GAP));
+    let Some(new) = look_at(
+        msg,
+        head.count as usize,
+        head.screens as usize,
+        head.stamp,
+        &known,
+    ) else {
+        return Err(Reply::Refused(Refusal::Gap));
     };
     if log_room() < (logged_of(b) + new) as u64 {
-        return GossipStop::Stopped(Reply::Refused(NO_ROOM));
+        return Err(Reply::Refused(Refusal::NoRoom));
     }
-    GossipStop::Clear {
-        sender,
-        screens,
-        count,
-        stamp,
-        new,
-    }
+    Ok(Incoming { head, new })
 }
 
-// What stops a well formed gossip, its head read; with nothing, that head and the number of new records. No word
-// changes.
-pub fn stop_gossip(
-    b: &[u64],
-    msg: &[u8],
-    sender: u64,
-    screens: u64,
-    count: u64,
-    stamp: Parts,
-) -> GossipStop
-    requires t { T (lawful b.now) }
-    requires heard { Heard msg.now sender screens count (list_of stamp) }
-    ensures { StopsGossip (book_of b.now) (message_of msg.now) sender screens count
-        stamp result }
+// A well formed gossip, its head read, where it may be taken; or the reply that stops it. No word changes.
+pub fn stop_gossip(b: &[u64], msg: &[u8], head: Head) -> Result<Incoming, Reply>
+    requires sound { T (lawful b.now) }
+    requires heard { Hears msg.now head }
+    ensures { StopsGossip (book_of b.now) (message_of msg.now) head result }
 {
-    let s = list_of(stamp);
-    let first = stamp_refusal(b, sender, screens, &s);
-    if first != NONE {
-        return GossipStop::Stopped(Reply::Refused(first));
-    }
-    stop_records(b, msg, sender, screens, count, stamp)
+    let s = list_of(head.stamp);
+    stamp_refusal(b, head.sender, head.screens, &s)?;
+    stop_records(b, msg, head)
 }
 
-// A gossip that nothing stops, its head read, with so many new records, taken.
-pub fn take_gossip(
-    b: &mut [u64],
-    msg: &[u8],
-    sender: u64,
-    screens: u64,
-    count: u64,
-    stamp: Parts,
-    new: usize,
-) -> Reply
-    requires t { T (lawful b.old) }
-    requires heard { Heard msg.now sender screens count (list_of stamp) }
-    requires msg_value { first_of (gossip_stops (book_of b.old) (message_of msg.now)) ≡ none }
-    requires value { new ≡ length (new_ones (book_of b.old) (message_of msg.now)) }
+// A gossip that nothing stops, taken.
+pub fn take_gossip(b: &mut [u64], msg: &[u8], incoming: Incoming) -> Reply
+    requires sound { T (lawful b.old) }
+    requires heard { Hears msg.now incoming.head }
+    requires unstopped { first_of (gossip_stops (book_of b.old) (message_of msg.now)) ≡ none }
+    requires new_number { incoming.new ≡ length (new_ones (book_of b.old) (message_of msg.now)) }
     ensures { Promise (lent_of (gossip_step (book_of b.old) (message_of msg.now))) result
         b.new }
 {
     let known = known_of(b);
-    let applied = take_in(
-        b,
-        sender as usize,
-        new,
-        msg,
-        count as usize,
-        screens as usize,
-        stamp,
-        &known,
-    );
-    Reply::Gossiped {
-        new: new as u64,
-        applied: applied,
-    }
+    let applied = take_in(b, msg, incoming, &known);
+    Reply::Gossiped(GossipTaken {
+        new: incoming.new as u64,
+        applied,
+    })
 }

@@ -15,7 +15,8 @@ use Rattle.ledger.specs.Record.{Record}
 use Rattle.wire.specs.Kinds.{send_kind}
 use Rattle.wire.specs.Read.{readable}
 use Rattle.wire.specs.Write.{Output, refuse}
-use Rattle.wire.specs.declared.Written.TheVariants.{Wrote}
+use Rattle.std.specs.Prelude.{Ok}
+use Rattle.wire.specs.declared.Refusal.TheVariants.{Unsound, Short}
 use Rattle.message.specs.Message.{message_bytes, well_formed}
 use Rattle.meaning.specs.Reply.{refusal, is_taken}
 use Rattle.meaning.specs.Step.{send}
@@ -127,13 +128,13 @@ module _ (n : ℕ) (h : LentHouse) (i : ℕ) (u : i < n) (bytes out : List ℕ)
   message = message_bytes (send (book_of ws))
 
   abbrev as_sent : Output
-  as_sent = record { answer = Wrote (length message); bytes = message ++ drop (length message) out }
+  as_sent = record { answer = Ok (length message); bytes = message ++ drop (length message) out }
 
   sends_so : lawful ws ≡ true → length message ≤ length out → send_on ws out ≡ as_sent
   unfolding send_on message
   sends_so e l =
-      ap (λ (c : Bool). cond c (put_front message out) (refuse 11 out)) e
-      ∙ ap (λ (c : Bool). cond c (refuse 12 out) as_sent) (le-ltb (length out) (length message) l)
+      ap (λ (c : Bool). cond c (put_front message out) (refuse Unsound out)) e
+      ∙ ap (λ (c : Bool). cond c (refuse Short out) as_sent) (le-ltb (length out) (length message) l)
 
   by-sent : lawful ws ≡ true → length message ≤ length out
       → left [] ws (front message) true false ≡ lent_send h i out (length message)

@@ -21,7 +21,8 @@ use Rattle.ledger.specs.Record.{Record}
 use Rattle.wire.specs.Kinds.{question_kind, stamp_at}
 use Rattle.wire.specs.Read.{line_of, readable}
 use Rattle.wire.specs.Write.{Output, refuse}
-use Rattle.wire.specs.declared.Written.TheVariants.{Wrote}
+use Rattle.std.specs.Prelude.{Ok}
+use Rattle.wire.specs.declared.Refusal.TheVariants.{Short}
 use Rattle.message.specs.Message.{well_formed, message_of, message_bytes}
 use Rattle.message.proofs.MessageLaws.{message-bytes, bytes_well}
 use Rattle.meaning.specs.Book.{Book, fresh}
@@ -200,20 +201,20 @@ module _ (n : ℕ) (lo : fewest ≤ n) (hi : n ≤ most) where
           }
 
   -- what stands at the front of the output is the one writing of the message
-  front : (bytes out : List ℕ) (k : ℕ) → (put_front bytes out).answer ≡ Wrote k
+  front : (bytes out : List ℕ) (k : ℕ) → (put_front bytes out).answer ≡ Ok k
       → take k (put_front bytes out).bytes ≡ bytes
   front bytes out k e = go (ltb (length out) (length bytes)) refl e
     where
       go : (c : Bool) → ltb (length out) (length bytes) ≡ c
-          → (cond c (refuse 12 out)
-          (record { answer = Wrote (length bytes); bytes = bytes ++ drop (length bytes) out })).answer ≡ Wrote k
-          → take k (cond c (refuse 12 out)
-          (record { answer = Wrote (length bytes); bytes = bytes ++ drop (length bytes) out })).bytes ≡ bytes
+          → (cond c (refuse Short out)
+          (record { answer = Ok (length bytes); bytes = bytes ++ drop (length bytes) out })).answer ≡ Ok k
+          → take k (cond c (refuse Short out)
+          (record { answer = Ok (length bytes); bytes = bytes ++ drop (length bytes) out })).bytes ≡ bytes
       go true e f = let z : ◌≡◌ {A = ℕ} 0 1 = cc in absurd (omega arith)
       go false e f = take_at bytes (drop (length bytes) out) k (cc)
 
   next-send : {h : LentHouse} (s : Same n h) (i : ℕ) → i < n → (out : List ℕ) (k : ℕ)
-      → (send_on (h.words i) out).answer ≡ Wrote k → Next s (lent_send h i out k)
+      → (send_on (h.words i) out).answer ≡ Ok k → Next s (lent_send h i out k)
   unfolding lent_send after_send
   next-send {h} s i u out k e =
       record {

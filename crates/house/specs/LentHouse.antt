@@ -3,7 +3,7 @@
 use Rattle.std.specs.Prelude.{ℕ, ◌<◌, ◌≡◌, ◌⊎◌, cond, T, ltb, length, take}
 use mathlib.Core.List.{List, [], ◌∷◌, map, Memᴰ}
 use Rattle.ledger.specs.Record.{Record}
-use Rattle.wire.specs.declared.Written.TheVariants.{Wrote}
+use Rattle.std.specs.Prelude.{Ok}
 use Rattle.message.specs.Message.{well_formed, message_of}
 use Rattle.meaning.specs.Book.{fresh}
 use Rattle.meaning.specs.Reply.{permits}
@@ -53,7 +53,7 @@ MayCome h of_question bytes = Unit {0}
 pub data LentStep (n : ℕ) : LentHouse → LentHouse → Type 0 where
   hears : {h : LentHouse} (i : ℕ) → i < n → (e : Entry) (bytes : List ℕ) → MayCome h e bytes
       → LentStep n h (lent_request h i e bytes)
-  sends : {h : LentHouse} (i : ℕ) → i < n → (out : List ℕ) (k : ℕ) → (send_on (h.words i) out).answer ≡ Wrote k
+  sends : {h : LentHouse} (i : ℕ) → i < n → (out : List ℕ) (k : ℕ) → (send_on (h.words i) out).answer ≡ Ok k
       → LentStep n h (lent_send h i out k)
 
 -- a run: each screen opened once, with its own number, on any slice of the one length; then any steps

@@ -101,8 +101,8 @@ module _ (n : ℕ) (m : Stamp) (count : ℕ) (bytes : List ℕ) (i : ℕ) (h : i
   unfolding left
   pass_unread r read = step ∙ rw ((unread (record_kind n m) (part_at i bytes) r read).0)
 
-  module _ (o q : ℕ) (l : Parts) (t : Tap) (read : Ok (said.Record o q l t) ≡ read_as (record_kind n m) (part_at i bytes))
-    where
+  module _ (o q : ℕ) (l : Parts) (t : Tap)
+      (read : Ok (said.Record o q l t) ≡ read_as (record_kind n m) (part_at i bytes)) where
       known : readable (record_kind n m) (part_at i bytes) ≡ true
       known = is_true (readable (record_kind n m) (part_at i bytes))
           (told (record_kind n m) (part_at i bytes) (said.Record o q l t) read).0

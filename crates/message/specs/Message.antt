@@ -1,6 +1,7 @@
 -- A gossip message as bytes: a head, then exactly count records, strictly rising by origin, then number. Assumes
 -- nothing.
-use Rattle.std.specs.Prelude.{ℕ, ◌+◌, ◌*◌, Bool, ◌&&◌, cond, List, ◌∷◌, ◌++◌, map, eqb, length, take, drop, Result, Ok, Err}
+use Rattle.std.specs.Prelude.{ℕ, ◌+◌, ◌*◌, Bool, ◌&&◌, cond, List, ◌∷◌, ◌++◌, map, eqb, length, take, drop}
+use Rattle.std.specs.Prelude.{Result, Ok, Err}
 use Rattle.lists.specs.Order.{rising}
 use Rattle.lists.specs.Rows.{rows, flat}
 use Rattle.lists.specs.Tests.{every}

@@ -13,16 +13,8 @@ use tally::ACCEPTED;
 pub fn permission(b: &[u64], msg: &[u8]) -> bool
     ensures { result ≡ permits (question_on b.now msg.now).reply }
 {
-    let answer = question(b, msg);
-    let Reply::Verdict {
-        verdict,
-        showing: _,
-        accepts: _,
-        declines: _,
-        value: _,
-    } = answer
-    else {
+    let Reply::Verdict(answer) = question(b, msg) else {
         return false;
     };
-    verdict == ACCEPTED
+    answer.verdict == ACCEPTED
 }

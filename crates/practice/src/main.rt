@@ -48,17 +48,11 @@ fn try_vector(
     requires inside_2 { Inside input file.now }
     requires inside_3 { Inside output file.now }
 {
-    let input_start = input.start;
-    let input_end = input.end;
-    let output_start = output.start;
-    let output_end = output.end;
     let outcome = play(
-        &file[input_start..input_end],
-        &file[output_start..output_end],
+        &file[input.start..input.end],
+        &file[output.start..output.end],
     );
-    let name_start = name.start;
-    let name_end = name.end;
-    print_line(rt, &file[name_start..name_end], outcome)
+    print_line(rt, &file[name.start..name.end], outcome)
 }
 
 // Every vector up to the file's end.
@@ -66,17 +60,14 @@ fn try_all(rt: &impl Print, file: &[u8]) -> io::Result<()> {
     let mut at = 0;
     let mut agreed: u64 = 0;
     let mut total: u64 = 0;
-    while at < file.len() {
-        let entry = entry_at(file, at);
-        match entry {
+    loop {
+        match entry_at(file, at) {
             NextVector::Vector {
                 name,
                 input,
                 output,
             } => {
-                if try_vector(rt, file, name, input, output)? {
-                    agreed += 1;
-                }
+                agreed += u64::from(try_vector(rt, file, name, input, output)?);
                 total += 1;
                 at = output.end;
             }
@@ -84,7 +75,6 @@ fn try_all(rt: &impl Print, file: &[u8]) -> io::Result<()> {
             NextVector::Cut => return print_cut(rt),
         }
     }
-    print_cut(rt)
 }
 
 // Its contract gives only the length, so that no proof looks at each of the zeros.
@@ -100,6 +90,7 @@ fn read_full<R: Read>(from: &mut R, buf: &mut [u8]) -> io::Result<usize>
     ensures { IfOk result (λ n. n ≤ length buf.new) }
 {
     let mut done = 0;
+    // Kept: a while, since each read says how far the next begins, and `read_exact` tells no count where the file ends.
     while done < buf.len() {
         let came = from.read(&mut buf[done..])?;
         if came == 0 {

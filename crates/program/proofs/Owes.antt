@@ -7,22 +7,22 @@ use mathlib.Core.List.{List, ◌++◌}
 use mathlib.Core.Option.{Option, none, some}
 use borrow.Author.Tests.{le-ltb}
 use lib.Dec.{T, eqb}
-use lib.ListN.{length, get_or, take, drop}
+use lib.ListN.{length, get_or, drop}
 use Rattle.wire.specs.Kinds.{open_kind, refusal_kind, in_table, longest}
 use Rattle.wire.specs.Read.{line_of, readable}
-use Rattle.wire.specs.Write.{Output, Meets, writable, refuse}
-use Rattle.wire.specs.declared.Written.{Written}
-use Rattle.wire.specs.declared.Written.TheVariants.{Wrote, Refused}
+use Rattle.wire.specs.Write.{Written, Output, Meets, refuse}
+use Rattle.std.specs.Prelude.{Ok, Err}
+use Rattle.wire.specs.Refusal.{table_number}
+use Rattle.wire.specs.declared.Refusal.{Refusal}
+use Rattle.wire.specs.declared.Refusal.TheVariants.{Short}
 use Rattle.meaning.specs.Reply.{Reply, refusal}
 use Rattle.lent.specs.Words.{book_long}
 use Rattle.promise.specs.Lent.{open_on}
-use Rattle.open_step.specs.Opening.{Opens, spoken_opening}
-use Rattle.open_step.specs.declared.Opening as opening
-use Rattle.open_step.specs.declared.Opening.TheVariants as opened
+use Rattle.open_step.specs.Opening.{Opening, Opens, spoken_opening}
 use Rattle.frames.specs.Next.{next_of}
 use Rattle.frames.specs.declared.Frame.{Frame}
-use Rattle.answer.specs.Speech.{bytes_for, sayable, say_on}
-use Rattle.answer.specs.SpeechLaws.{says-put, reply-long, open-says}
+use Rattle.answer.specs.Speech.{refusal_bytes, say_on}
+use Rattle.answer.specs.SpeechLaws.{says-put, reply-long, refusal-says}
 use Rattle.answer.specs.Answer.{done_on, answer_on, Answers, open_from}
 use Rattle.answer.specs.AnswerLaws.{front, within, room_most, unsound-says}
 use Rattle.program.specs.Said.{bad}
@@ -32,36 +32,31 @@ use Rattle.program.specs.declared.Turn.{Turn}
 use Rattle.program.specs.declared.Turn.TheVariants.{Read, Say, Last, Stop}
 
 -- a refusal has two bytes, which the output has
-module _ (k : ℕ) (out : List ℕ) (w : Written) (bytes : List ℕ) (t : T (sayable (refusal k)))
-    (room : longest ≤ length out)
-    (m : Meets (say_on (refusal k) out) w bytes) where
+module _ (r : Refusal) (out : List ℕ) (w : Written) (bytes : List ℕ) (room : longest ≤ length out)
+    (m : Meets (say_on (refusal (table_number r)) out) w bytes) where
   abbrev said : List ℕ
-  said = bytes_for (refusal k)
+  said = refusal_bytes r
 
   abbrev fronted : Output
-  fronted = record { answer = Wrote (length said); bytes = said ++ drop (length said) out }
+  fronted = record { answer = Ok (length said); bytes = said ++ drop (length said) out }
 
-  stands : say_on (refusal k) out ≡ fronted
+  stands : say_on (refusal (table_number r)) out ≡ fronted
   stands =
-      says-put (refusal k) out t
-      ∙ ap (λ (c : Bool). cond c (refuse 12 out) fronted)
-      (le-ltb (length out) (length said) (omega (arith, reply-long (refusal k) t)))
+      says-put (refusal (table_number r)) out (refusal-says r)
+      ∙ ap (λ (c : Bool). cond c (refuse Short out) fronted)
+      (le-ltb (length out) (length said) (omega (arith, reply-long (refusal (table_number r)) (refusal-says r))))
 
-  wrote : w ≡ Wrote (length said)
+  wrote : w ≡ Ok (length said)
   wrote = m.answers ∙ ap (λ (o : Output). o.answer) stands
 
-  pub refusal-said : (n : ℕ) → w ≡ Wrote n → (Last n ≡ Last (length said)) × (bytes ≡ said ++ drop (length said) out)
+  pub refusal-said : (n : ℕ) → w ≡ Ok n → (Last n ≡ Last (length said)) × (bytes ≡ said ++ drop (length said) out)
   refusal-said n e =
       let q = wrote in
       let same : n ≡ length said = cc in
       (ap Last same, m.leaves ∙ ap (λ (o : Output). o.bytes) stands)
 
-  pub refusal_unsaid : (j : ℕ) → w ≡ Refused j → ⊥
+  pub refusal_unsaid : (j : Refusal) → w ≡ Err j → ⊥
   refusal_unsaid j e = let q = wrote in let z : ◌≡◌ {A = ℕ} 0 1 = cc in omega arith
-
-pub one-says : T (sayable (refusal 1))
-unfolding writable refusal_kind in_table
-one-says = tt
 
 -- bytes that are said last
 pub last-owes :
@@ -96,27 +91,10 @@ module _ (words read : List ℕ) (ended opened : Bool) (n : ℕ) (out : List ℕ
   more_breaks e f r bytes p q = by_tests true false e f r bytes (last-owes words bad out r bytes p q)
 
 -- kind 11
-refused_says : (ws : List ℕ) (i n k : ℕ) (read right : Bool)
-    → (cond read (open_on ws i n) (record { refused = some (cond right (refusal 1) (refusal 11)); words = ws })).refused
-    ≡ some (refusal k)
-    → T (sayable (refusal k))
-refused_says ws i n k true right e = open-says ws i n (refusal k) e
-refused_says ws i n k false true e =
-    let z : refusal 1 ≡ refusal k = cc in subst (λ (r : Reply). T (sayable r)) z one-says
-refused_says ws i n k false false e =
-    let z : refusal 11 ≡ refusal k = cc in subst (λ (r : Reply). T (sayable r)) z unsound-says
-
-module _ (ws msg : List ℕ) (r : opening.Opening) (words : List ℕ) (o : Opens (open_from ws msg) r words) (out : List ℕ)
+module _ (ws msg : List ℕ) (r : Opening) (words : List ℕ) (o : Opens (open_from ws msg) r words) (out : List ℕ)
   where
     refused_is : (x : Option Reply) → spoken_opening r ≡ x → (open_from ws msg).refused ≡ x
     refused_is x e = sym o.answers ∙ e
-
-    pub opening-says : (k : ℕ) → r ≡ opened.Refused k → T (sayable (refusal k))
-    unfolding open_from
-    opening-says k q =
-        let line = line_of open_kind msg in
-        refused_says ws (get_or line 1 0) (get_or line 2 0) k (readable open_kind msg) (eqb (length ws) book_long)
-        (refused_is (some (refusal k)) (ap spoken_opening q))
 
     abbrev turn_for : Option Reply → Turned
     turn_for x = open_turn (length msg) x (open_from ws msg).words
@@ -126,16 +104,16 @@ module _ (ws msg : List ℕ) (r : opening.Opening) (words : List ℕ) (o : Opens
         → Turns (message_turn ws msg false) t words out bytes
     turned x e t bytes q = subst (λ (y : Option Reply). Turns (turn_for y) t words out bytes) (sym (refused_is x e)) q
 
-    pub opens_silent : r ≡ opened.Opened → Turns (message_turn ws msg false) (Say (length msg) 0) words out out
+    pub opens_silent : r ≡ Ok tt → Turns (message_turn ws msg false) (Say (length msg) 0) words out out
     opens_silent q = turned none (ap spoken_opening q) (Say (length msg) 0) out
         (record { gives = refl; leaves = o.leaves; writes = refl })
 
     pub opens-refused :
-        (k : ℕ) → r ≡ opened.Refused k → (t : Turn) (bytes : List ℕ) → t ≡ Last (length (bytes_for (refusal k)))
-        → bytes ≡ bytes_for (refusal k) ++ drop (length (bytes_for (refusal k))) out
+        (k : Refusal) → r ≡ Err k → (t : Turn) (bytes : List ℕ) → t ≡ Last (length (refusal_bytes k))
+        → bytes ≡ refusal_bytes k ++ drop (length (refusal_bytes k)) out
         → Turns (message_turn ws msg false) t words out bytes
     opens-refused k q t bytes e f =
-        turned (some (refusal k)) (ap spoken_opening q) t bytes (record { gives = e; leaves = o.leaves; writes = f })
+        turned (some (refusal (table_number k))) (ap spoken_opening q) t bytes (record { gives = e; leaves = o.leaves; writes = f })
 
 -- a whole message
 module _ (ws msg out : List ℕ) (opened : Bool) where
@@ -156,14 +134,6 @@ module _ (ws msg out : List ℕ) (opened : Bool) where
         leaves = a.leaves ∙ sym f.leaves;
         writes = a.writes ∙ sym f.writes;
       })
-
--- the message is the part of what is read up to its end
-pub message-part :
-    (ws read : List ℕ) (opened : Bool) (out : List ℕ) (n k : ℕ) → k ≡ n → (t : Turn) (words bytes : List ℕ)
-    → Turns (message_turn ws (take k read) opened) t words out bytes
-    → Turns (message_turn ws (take n read) opened) t words out bytes
-message-part ws read opened out n k e t words bytes q =
-    subst (λ (x : ℕ). Turns (message_turn ws (take x read) opened) t words out bytes) e q
 
 -- by what is read
 pub turn-owes :

@@ -2,22 +2,20 @@
 // input has ended.
 #![tactic(auto)]
 
-ghost use Rattle.std.specs.Prelude.{◌≡◌, false, ◌&&◌, ◌++◌, ◌≤◌, T, eqb, length, drop};
+ghost use Rattle.std.specs.Prelude.{◌≡◌, false, ◌&&◌, ◌++◌, ◌≤◌, length, drop};
 ghost use Rattle.wire.specs.Kinds.{longest};
-ghost use Rattle.meaning.specs.Reply.{refusal};
-ghost use Rattle.answer.specs.Speech.{bytes_for, sayable};
+ghost use Rattle.answer.specs.Speech.{refusal_bytes};
 ghost use Rattle.program.specs.Turn.{more_turn, message_turn, turn_on, Turns};
 ghost use Rattle.program.specs.declared.Turn.TheVariants.{Last};
 
 use answer::{answer, open_from, speak};
 use frames::{Frame, next_in};
-use open_step::Opening;
 use promise::Reply;
-use wire::{BAD, Written};
+use wire::Refusal;
 
 // Read until so many bytes are there in all, or the input ends; so many bytes of what is read are used up, and so many
 // at the output's front are said; so many are said, and the program stops; it stops without a word.
-#[derive(Clone, Copy)]
+#[derive(Clone, Copy, Debug, PartialEq, Eq)]
 pub enum Turn {
     Read(usize),
     Say { used: usize, said: usize },
@@ -26,31 +24,18 @@ pub enum Turn {
 }
 
 // A refusal is said, and the program stops.
-fn last_refusal(number: u64, out: &mut [u8]) -> Turn
-    requires t { T (sayable (refusal number)) }
-    requires longest_in_bounds { longest ≤ length out.old }
-    ensures value { result ≡ Last (length (bytes_for (refusal number))) }
-    ensures out_after { out.new
-        ≡ bytes_for (refusal number) ++ drop (length (bytes_for (refusal number))) out.old }
+fn last_refusal(refused: Refusal, out: &mut [u8]) -> Turn
+    requires { longest ≤ length out.old }
+    ensures value { result ≡ Last (length (refusal_bytes refused)) }
+    ensures out_after { out.new ≡ refusal_bytes refused ++ drop (length (refusal_bytes refused)) out.old }
 {
-    let wrote = speak(Reply::Refused(number), out);
-    match wrote {
-        Written::Wrote(n) => Turn::Last(n),
-        Written::Refused(_) => Turn::Stop,
+    match speak(Reply::Refused(refused), out) {
+        Ok(n) => Turn::Last(n),
+        Err(_) => Turn::Stop,
     }
 }
 
-// Whether the book is open and nothing of a next message is read.
-fn is_between(read: &[u8], opened: bool) -> bool
-    ensures { result ≡ (opened && eqb (length read.now) 0) }
-{
-    if !opened {
-        return false;
-    }
-    read.len() == 0
-}
-
-// What is read is no whole message yet, which needs n bytes.
+// What is read is no whole message yet, which needs n bytes. Only between two messages may the input end.
 fn more_turn(book: &[u64], read: &[u8], ended: bool, opened: bool, n: usize, out: &mut [u8]) -> Turn
     requires { longest ≤ length out.old }
     ensures { Turns (more_turn book.now read.now ended opened n) result book.now
@@ -59,10 +44,10 @@ fn more_turn(book: &[u64], read: &[u8], ended: bool, opened: bool, n: usize, out
     if !ended {
         return Turn::Read(n);
     }
-    if is_between(read, opened) {
+    if opened && read.is_empty() {
         return Turn::Stop;
     }
-    last_refusal(BAD, out)
+    last_refusal(Refusal::Bad, out)
 }
 
 // The first message opens the book.
@@ -71,13 +56,12 @@ fn open_turn(book: &mut [u64], msg: &[u8], out: &mut [u8]) -> Turn
     ensures { Turns (message_turn book.old msg.now false) result book.new
         out.old out.new }
 {
-    let opening = open_from(book, msg);
-    match opening {
-        Opening::Opened => Turn::Say {
+    match open_from(book, msg) {
+        Ok(()) => Turn::Say {
             used: msg.len(),
             said: 0,
         },
-        Opening::Refused(number) => last_refusal(number, out),
+        Err(refused) => last_refusal(refused, out),
     }
 }
 
@@ -106,7 +90,7 @@ pub fn next_turn(book: &mut [u64], read: &[u8], ended: bool, opened: bool, out: 
     let frame = next_in(read, opened);
     match frame {
         Frame::More(n) => more_turn(book, read, ended, opened, n, out),
-        Frame::Whole(n) => message_turn(book, &read[0..n], opened, out),
-        Frame::Stop => last_refusal(BAD, out),
+        Frame::Whole(n) => message_turn(book, &read[..n], opened, out),
+        Frame::Stop => last_refusal(Refusal::Bad, out),
     }
 }

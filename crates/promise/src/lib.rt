@@ -1,6 +1,9 @@
 // What a screen answers, as a value: each case has its own data.
 #![tactic(auto)]
 
+ghost use Rattle.std.specs.Prelude.{◌≡◌};
+ghost use Rattle.promise.specs.declared.Reply.TheVariants as says;
+
 use stamp::Parts;
 use wire::{GossipTaken, Refusal, Verdict};
 
@@ -13,4 +16,12 @@ pub enum Reply {
     Wait(u64),
     Refused(Refusal),
     Gossiped(GossipTaken),
+}
+
+impl From<Refusal> for Reply {
+    ghost from_gives = { λ r reply. reply ≡ says.Refused r };
+
+    fn from(refusal: Refusal) -> Reply {
+        Reply::Refused(refusal)
+    }
 }

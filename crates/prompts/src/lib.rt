@@ -16,34 +16,27 @@ const STANDING_LONG: usize = 3;
 
 pub const PROMPT_WORDS: usize = PROMPT_COUNT as usize * STANDING_LONG;
 
-// Where a prompt's standing begins.
-#[tactic(auto, unfolding(limits::specs::Limits::prompt_count))]
-fn place_of(p: u64) -> usize
-    requires { p < prompt_count }
-    ensures { (result ≡ p * standing_long) × (result + standing_long ≤ prompt_words) }
-{
-    p as usize * STANDING_LONG
-}
-
 pub fn standing_at(r: &[u64], p: u64) -> Standing
     requires r_len { length r.now ≡ prompt_words }
     requires p_lt_prompt_count { p < prompt_count }
     ensures { result ≡ get_or (standings_at r.now) p blank }
 {
-    let at = place_of(p);
+    let (standings, _) = r.as_chunks::<STANDING_LONG>();
+    let [showing, accepts, declines] = standings[p as usize];
     Standing {
-        showing: r[at],
-        accepts: r[at + 1],
-        declines: r[at + 2],
+        showing,
+        accepts,
+        declines,
     }
 }
 
+// Kept: the place is worked out here, since the library lends no rows to write to.
 fn put_standing(r: &mut [u64], p: u64, s: Standing)
     requires r_len { length r.old ≡ prompt_words }
     requires p_lt_prompt_count { p < prompt_count }
     ensures { r.new ≡ standing_words (set (standings_at r.old) p s) }
 {
-    let at = place_of(p);
+    let at = p as usize * STANDING_LONG;
     r[at] = s.showing;
     r[at + 1] = s.accepts;
     r[at + 2] = s.declines;

@@ -2,7 +2,7 @@
 // library's.
 #![tactic(auto)]
 
-ghost use Rattle.std.specs.Prelude.{◌-◌, ◌≡◌, ◌≤◌, length, take, IfOk};
+ghost use Rattle.std.specs.Prelude.{◌≤◌, length, IfOk};
 
 use lent::BOOK;
 use program::{Turn, next_turn};
@@ -10,28 +10,20 @@ use std::io;
 use std::io::Read;
 use wire::LONGEST;
 
-// Reads behind the first `have` bytes, which stay, until there are n in all or the input ends; how many came. An error
-// is that of a read.
-fn read_on<R: Read>(input: &mut R, msg: &mut [u8], have: usize, n: usize) -> io::Result<usize>
-    requires { (have ≤ n) × (n ≤ length msg.old) }
-    ensures ok { IfOk result (λ got. got ≤ n - have) }
-    ensures kept { take have msg.new ≡ take have msg.old }
+// Reads until the buffer is full or the input ends; how many bytes came. An error is that of a read.
+fn read_full<R: Read>(input: &mut R, buf: &mut [u8]) -> io::Result<usize>
+    ensures { IfOk result (λ n. n ≤ length buf.new) }
 {
-    let mut got = 0;
-    while got < n - have {
-        let came = input.read(&mut msg[have + got..n])?;
+    let mut done = 0;
+    // Kept: a while, since each read says how far the next begins, and `read_exact` tells no count where the input ends.
+    while done < buf.len() {
+        let came = input.read(&mut buf[done..])?;
         if came == 0 {
             break;
         }
-        got += came;
+        done += came;
     }
-    Ok(got)
-}
-
-fn write_front(rt: &impl Print, out: &[u8], said: usize) -> io::Result<()>
-    requires { said ≤ length out.now }
-{
-    rt.write_all(&out[0..said])
+    Ok(done)
 }
 
 fn main(rt: HostRuntime) -> io::Result<()> {
@@ -43,22 +35,19 @@ fn main(rt: HostRuntime) -> io::Result<()> {
     let mut ended = false;
     let mut opened = false;
     // Every loop is proved to end: these are more turns than any input has bytes.
-    let mut turns = u64::MAX;
-    while turns > 0 {
-        turns -= 1;
-        let turn = next_turn(&mut book, &msg[0..have], ended, opened, &mut out);
-        match turn {
+    for _ in 0..u64::MAX {
+        match next_turn(&mut book, &msg[..have], ended, opened, &mut out) {
             Turn::Read(n) => {
-                let got = read_on(&mut input, &mut msg, have, n)?;
+                let got = read_full(&mut input, &mut msg[have..n])?;
                 ended = got < n - have;
                 have += got;
             }
             Turn::Say { used: _, said } => {
-                write_front(&rt, &out, said)?;
+                rt.write_all(&out[..said])?;
                 have = 0;
                 opened = true;
             }
-            Turn::Last(said) => return write_front(&rt, &out, said),
+            Turn::Last(said) => return rt.write_all(&out[..said]),
             Turn::Stop => return Ok(()),
         }
     }

@@ -20,10 +20,10 @@ use Rattle.book_log.specs.Region.{row_long, record_at, body_place}
 use Rattle.wire.specs.Kinds.{Kind, size_of, head_kind, record_kind, head_long, record_long}
 use Rattle.wire.proofs.Returns.{meets}
 use Rattle.wire.specs.Said.{figures}
-use Rattle.wire.specs.Write.{Meets, writable, written, write_as}
+use Rattle.wire.specs.Write.{Written, Meets, writable, written, write_as}
 use Rattle.wire.specs.Says as said
-use Rattle.wire.specs.declared.Written.{Written}
-use Rattle.wire.specs.declared.Written.TheVariants.{Wrote, Refused}
+use Rattle.std.specs.Prelude.{Ok, Err}
+use Rattle.wire.specs.declared.Refusal.TheVariants.{Short}
 use Rattle.message.specs.LineLaws.{head-writable}
 use Rattle.message.specs.Message.{head_of, line_for, message_bytes}
 use Rattle.message.proofs.MessageLaws.{records-writable, length-bytes-of}
@@ -153,9 +153,9 @@ module _ (ws : List ℕ) (h : T (lawful ws)) where
 
 -- a message at the front of an output, by the test of the room
 module _ (bytes out : List ℕ) (n : ℕ) (e : length bytes ≡ n) where
-  pub too_short : length out < n → Meets (put_front bytes out) (Refused 12) out
-  too_short l = meets (Refused 12) out (rw (e, lt-ltb (length out) n l))
+  pub too_short : length out < n → Meets (put_front bytes out) (Err Short) out
+  too_short l = meets (Err Short) out (rw (e, lt-ltb (length out) n l))
 
   pub fits-front : n ≤ length out → (left : List ℕ) → left ≡ bytes ++ drop (length bytes) out
-      → Meets (put_front bytes out) (Wrote n) left
-  fits-front l left w = meets (Wrote n) left (rw (w, e, le-ltb (length out) n l))
+      → Meets (put_front bytes out) (Ok n) left
+  fits-front l left w = meets (Ok n) left (rw (w, e, le-ltb (length out) n l))

@@ -1,7 +1,7 @@
 // Send: the known stamp and the whole log as one gossip message at the front of a lent output.
-#![tactic(auto)]
+#![tactic(auto, using(crate::proofs::Held::held))]
 
-ghost use Rattle.std.specs.Prelude.{◌≡◌, ◌+◌, ◌-◌, ◌≤◌, ◌<◌, T, length, get_or};
+ghost use Rattle.std.specs.Prelude.{◌≡◌, ◌+◌, ◌≤◌, ◌<◌, T, length, get_or};
 ghost use Rattle.lists.specs.Part.{patch};
 ghost use Rattle.stamp.specs.Parts.{list_of};
 ghost use Rattle.book_log.specs.Region.{row_long, record_at};
@@ -20,7 +20,7 @@ use lent::{known_of, log_row, logged_of, screen_of, screens_of};
 use requests::{write_head, write_record};
 use stamp::{Parts, parts_at};
 use tally::unpack;
-use wire::{HEAD_SIZE, RECORD_SIZE, SHORT, Written};
+use wire::{HEAD_SIZE, RECORD_SIZE, Refusal};
 
 // The known stamp.
 fn stamp_of(b: &[u64]) -> Parts
@@ -38,7 +38,7 @@ fn put_head(b: &[u64], m: Parts, out: &mut [u8])
     requires head_long_in_bounds { head_long ≤ length out.old }
     ensures { out.new ≡ with_head (send (book_of b.now)) out.old }
 {
-    write_head(screen_of(b), screens_of(b), logged_of(b) as u64, m, out);
+    let _ = write_head(screen_of(b), screens_of(b), logged_of(b) as u64, m, out);
 }
 
 // A row's record over the whole of a part, in a message of n screens and stamp m.
@@ -49,17 +49,7 @@ fn put_row(row: &[u64], n: usize, m: Parts, part: &mut [u8])
 {
     let label = parts_at(row, LABEL);
     let tap = unpack(row[BODY]);
-    write_record(row[ORIGIN], row[NUMBER], label, tap, n, m, part);
-}
-
-// The same over the part of out from a up to e.
-fn put_row_at(row: &[u64], n: usize, m: Parts, out: &mut [u8], a: usize, e: usize)
-    requires row_len { (length row.now ≡ row_long) × (a ≤ e) × (e ≤ length out.old) × (e - a ≡ record_long) }
-    requires t { T (writable (record_kind n (list_of m)) (line_for (record_at row.now))) }
-    ensures { out.new
-        ≡ patch a (e - a) out.old (written (record_kind n (list_of m)) (line_for (record_at row.now))) }
-{
-    put_row(row, n, m, &mut out[a..e]);
+    let _ = write_record(row[ORIGIN], row[NUMBER], label, tap, n, m, part);
 }
 
 // The log's i-th record at its place in the message.
@@ -73,7 +63,12 @@ fn put_record(b: &[u64], i: usize, m: Parts, out: &mut [u8])
 {
     let row = log_row(b, i);
     let a = HEAD_SIZE + i * RECORD_SIZE;
-    put_row_at(&row, screens_of(b) as usize, m, out, a, a + RECORD_SIZE);
+    put_row(
+        &row,
+        screens_of(b) as usize,
+        m,
+        &mut out[a..a + RECORD_SIZE],
+    );
 }
 
 // The log's records behind the head.
@@ -91,17 +86,17 @@ fn put_records(b: &[u64], m: Parts, out: &mut [u8])
 }
 
 // The message of a sound book, or refusal 12 where the output is shorter than it. Output past the message stays.
-pub fn send_book(b: &[u64], out: &mut [u8]) -> Written
+pub fn send_book(b: &[u64], out: &mut [u8]) -> Result<usize, Refusal>
     requires { T (lawful b.now) }
     ensures { Meets (put_front (message_bytes (send (book_of b.now))) out.old) result
         out.new }
 {
     let long = HEAD_SIZE + logged_of(b) * RECORD_SIZE;
     if out.len() < long {
-        return Written::Refused(SHORT);
+        return Err(Refusal::Short);
     }
     let m = stamp_of(b);
     put_head(b, m, out);
     put_records(b, m, out);
-    Written::Wrote(long)
+    Ok(long)
 }

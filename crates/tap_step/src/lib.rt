@@ -28,17 +28,11 @@ use lent::{
     screen_of, value_of,
 };
 use limits::{book_room, log_room};
-use promise::{NO_ROOM, Reply, SPENT, UNKNOWN_LABEL};
+use promise::Reply;
 use settle::{row_stamp, settle_book};
 use stamp::{Parts, part_at, parts_at, sum};
-use tally::{Tap, pack};
-
-// The reply that stops a tap, or the tap and its label, which may be taken.
-#[derive(Clone, Copy)]
-pub enum TapStop {
-    Stopped(Reply),
-    Clear { tap: Tap, label: Parts },
-}
+use tally::pack;
+use wire::{Refusal, TapRequest};
 
 // The stamp of a row's record.
 fn stamp_parts(row: &[u64; ROW]) -> Parts
@@ -97,38 +91,38 @@ fn enter(b: &mut [u64], w: u64, label: Parts) -> Parts
     stamp_parts(&row)
 }
 
-// What stops a tap; with nothing, the tap and its label. No word changes.
-pub fn stop_tap(b: &[u64], tap: Tap, label: Parts) -> TapStop
-    requires t { T (lawful b.now) }
-    requires t_2 { T (tap_fits tap) }
-    requires t_3 { T (stamp_fits (book_of b.now).screens (list_of label)) }
-    ensures { StopsTap (book_of b.now) tap label result }
+// The tap, where it may be taken; or the reply that stops it. No word changes.
+pub fn stop_tap(b: &[u64], asked: TapRequest) -> Result<TapRequest, Reply>
+    requires sound { T (lawful b.now) }
+    requires tap_fits { T (tap_fits asked.tap) }
+    requires label_fits { T (stamp_fits (book_of b.now).screens (list_of asked.label)) }
+    ensures { StopsTap (book_of b.now) asked result }
 {
-    if label_unknown(b, label) {
-        return TapStop::Stopped(Reply::Refused(UNKNOWN_LABEL));
+    if label_unknown(b, asked.label) {
+        return Err(Reply::Refused(Refusal::UnknownLabel));
     }
-    let w = pack(tap);
+    let w = pack(asked.tap);
     if is_counted(b, w) {
-        return TapStop::Stopped(Reply::Already(value_of(b)));
+        return Err(Reply::Already(value_of(b)));
     }
     if let Some(i) = find_logged(b, w) {
-        return TapStop::Stopped(Reply::Already(logged_stamp(b, i)));
+        return Err(Reply::Already(logged_stamp(b, i)));
     }
     if is_spent(b) {
-        return TapStop::Stopped(Reply::Refused(SPENT));
+        return Err(Reply::Refused(Refusal::Spent));
     }
     if log_room() <= logged_of(b) as u64 {
-        return TapStop::Stopped(Reply::Refused(NO_ROOM));
+        return Err(Reply::Refused(Refusal::NoRoom));
     }
-    TapStop::Clear { tap, label }
+    Ok(asked)
 }
 
-// A tap that nothing stops, with its label, taken.
-pub fn take_tap(b: &mut [u64], tap: Tap, label: Parts) -> Reply
-    requires t { T (lawful b.old) }
-    requires label_value { first_of (tap_stops (book_of b.old) tap (list_of label)) ≡ none }
-    ensures { Promise (lent_of (tap_step (book_of b.old) tap (list_of label))) result b.new }
+// A tap that nothing stops, taken.
+pub fn take_tap(b: &mut [u64], asked: TapRequest) -> Reply
+    requires sound { T (lawful b.old) }
+    requires unstopped { first_of (tap_stops (book_of b.old) asked.tap (list_of asked.label)) ≡ none }
+    ensures { Promise (lent_of (tap_step (book_of b.old) asked.tap (list_of asked.label))) result b.new }
 {
-    let w = pack(tap);
-    Reply::Taken(enter(b, w, label))
+    let w = pack(asked.tap);
+    Reply::Taken(enter(b, w, asked.label))
 }

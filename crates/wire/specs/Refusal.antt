@@ -1,5 +1,6 @@
 -- The table of refusals: the number of each, and the refusal of a number. Assumes nothing.
-use Rattle.std.specs.Prelude.{ℕ, ◌≡◌, refl, cond, eqb, List, [], ◌∷◌}
+use Rattle.std.specs.Prelude.{ℕ, ◌<◌, ◌≡◌, refl, cond, eqb, List, [], ◌∷◌}
+use Rattle.std.proofs.Common.{arith}
 use Rattle.wire.specs.declared.Refusal.{Refusal}
 use Rattle.wire.specs.declared.Refusal.TheVariants.{Bad, WrongHouse, UnknownLabel, Old, Crossed, Ahead, Spent, Gap}
 use Rattle.wire.specs.declared.Refusal.TheVariants.{NoRoom, Unsound, Short}
@@ -40,3 +41,17 @@ numbered_back Gap = refl
 numbered_back NoRoom = refl
 numbered_back Unsound = refl
 numbered_back Short = refl
+
+-- no refusal is numbered zero
+pub number_pos : (r : Refusal) → 0 < table_number r
+number_pos Bad = omega arith
+number_pos WrongHouse = omega arith
+number_pos UnknownLabel = omega arith
+number_pos Old = omega arith
+number_pos Crossed = omega arith
+number_pos Ahead = omega arith
+number_pos Spent = omega arith
+number_pos Gap = omega arith
+number_pos NoRoom = omega arith
+number_pos Unsound = omega arith
+number_pos Short = omega arith

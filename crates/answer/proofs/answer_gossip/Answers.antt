@@ -4,8 +4,8 @@ use mathlib.Core.Path.{refl, subst}
 use native.Mathlib.Omega.{arith}
 use Rattle.promise.specs.KeepsLaws.{gossip-stopped}
 use Rattle.promise.specs.Lent.{Promise, gossip_on}
-use Rattle.gossip_step.specs.declared.GossipStop.{GossipStop}
-use Rattle.gossip_step.specs.declared.GossipStop.TheVariants.{Clear}
+use Rattle.std.specs.Prelude.{Ok}
+use Rattle.gossip_step.specs.Stop.{GossipStop}
 use Rattle.book.specs.Heard.{owes_stop, gossip_may, gossip-owes}
 use Rattle.book.specs.Stop.{GossipStopOn}
 use Rattle.answer.specs.SpeechLaws.{gossip-says}
@@ -17,10 +17,10 @@ use Rattle.answer.proofs.answer_gossip.Goals as goal
 pub put-requires : goal.put-requires
 put-requires c =
     let stopped : (let s = c.args in
-    Promise (gossip_on s.b.now s.msg.now) c.in-Stopped.reply s.b.now) =
+    Promise (gossip_on s.b.now s.msg.now) c.in-Err.reply s.b.now) =
     let s = c.args in
-    let stop = subst (λ (x : GossipStop). GossipStopOn s.b.now s.msg.now x) c.in-Stopped.is
-    c.gossip_stop-stop.ensures in
+    let stop = subst (λ (x : GossipStop). GossipStopOn s.b.now s.msg.now x) c.in-Err.is
+    c.gossip_stop.ensures in
     owes_stop _ _ s.b.now (gossip-stopped s.b.now s.msg.now _ stop) in
     let s = c.args in
     answer-says (gossip_on s.b.now s.msg.now) _ _ (stopped) (gossip-says s.b.now s.msg.now)
@@ -28,48 +28,48 @@ put-requires c =
 pub returns-then-out-lt-GOSSIP_ROOM : goal.returns-then-out-lt-GOSSIP_ROOM
 returns-then-out-lt-GOSSIP_ROOM c =
     let clear : (let s = c.args in GossipStopOn s.b.now s.msg.now
-    (Clear c.in-Clear.sender c.in-Clear.screens c.in-Clear.count c.in-Clear.stamp c.in-Clear.new)) =
+    (Ok c.in-Ok.incoming)) =
     let s = c.args in
-    subst (λ (x : GossipStop). GossipStopOn s.b.now s.msg.now x) c.in-Clear.is c.gossip_stop-stop.ensures in
+    subst (λ (x : GossipStop). GossipStopOn s.b.now s.msg.now x) c.in-Ok.is c.gossip_stop.ensures in
     let s = c.args in
     short (done_by (gossip_on s.b.now s.msg.now)) s.b.now s.out.now
     (omega (arith, c.if-out-lt-GOSSIP_ROOM.true, gossip-room s.b.now s.msg.now (clear).0))
 
-pub take_gossip-reply-requires : goal.take_gossip-reply-requires
-take_gossip-reply-requires c =
+pub take_gossip-requires : goal.take_gossip-requires
+take_gossip-requires c =
     let clear : (let s = c.args in GossipStopOn s.b.now s.msg.now
-    (Clear c.in-Clear.sender c.in-Clear.screens c.in-Clear.count c.in-Clear.stamp c.in-Clear.new)) =
+    (Ok c.in-Ok.incoming)) =
     let s = c.args in
-    subst (λ (x : GossipStop). GossipStopOn s.b.now s.msg.now x) c.in-Clear.is c.gossip_stop-stop.ensures in
+    subst (λ (x : GossipStop). GossipStopOn s.b.now s.msg.now x) c.in-Ok.is c.gossip_stop.ensures in
     let s = c.args in
     let may = gossip_may s.b.now s.msg.now (clear).0 in
     record {
-      t = may.0;
+      sound = may.0;
       heard = (clear).1;
-      msg_value = may.1;
-      value = (clear).2;
+      unstopped = may.1;
+      new_number = (clear).2;
     }
 
-pub put-requires-in-Clear : goal.put-requires-in-Clear
-put-requires-in-Clear c =
+pub put-requires-in-Ok : goal.put-requires-in-Ok
+put-requires-in-Ok c =
     let clear : (let s = c.args in GossipStopOn s.b.now s.msg.now
-    (Clear c.in-Clear.sender c.in-Clear.screens c.in-Clear.count c.in-Clear.stamp c.in-Clear.new)) =
+    (Ok c.in-Ok.incoming)) =
     let s = c.args in
-    subst (λ (x : GossipStop). GossipStopOn s.b.now s.msg.now x) c.in-Clear.is c.gossip_stop-stop.ensures in
+    subst (λ (x : GossipStop). GossipStopOn s.b.now s.msg.now x) c.in-Ok.is c.gossip_stop.ensures in
     let taken : (let s = c.args in
-    Promise (gossip_on s.b.now s.msg.now) c.take_gossip-reply.result c.take_gossip-reply.new.b) =
+    Promise (gossip_on s.b.now s.msg.now) c.take_gossip.result c.take_gossip.new.b) =
     let s = c.args in
-    gossip-owes s.b.now s.msg.now (clear).0 _ _ c.take_gossip-reply.ensures in
+    gossip-owes s.b.now s.msg.now (clear).0 _ _ c.take_gossip.ensures in
     let s = c.args in
     answer-says (gossip_on s.b.now s.msg.now) _ _ (taken) (gossip-says s.b.now s.msg.now)
 
-pub returns-in-Stopped : goal.returns-in-Stopped
-returns-in-Stopped c =
+pub returns-in-Err : goal.returns-in-Err
+returns-in-Err c =
     let stopped : (let s = c.args in
-    Promise (gossip_on s.b.now s.msg.now) c.in-Stopped.reply s.b.now) =
+    Promise (gossip_on s.b.now s.msg.now) c.in-Err.reply s.b.now) =
     let s = c.args in
-    let stop = subst (λ (x : GossipStop). GossipStopOn s.b.now s.msg.now x) c.in-Stopped.is
-    c.gossip_stop-stop.ensures in
+    let stop = subst (λ (x : GossipStop). GossipStopOn s.b.now s.msg.now x) c.in-Err.is
+    c.gossip_stop.ensures in
     owes_stop _ _ s.b.now (gossip-stopped s.b.now s.msg.now _ stop) in
     let s = c.args in
     owes-kept (gossip_on s.b.now s.msg.now) s.b.now s.out.now s.b.now _ (stopped) _ _
@@ -78,14 +78,14 @@ returns-in-Stopped c =
 pub returns-else-out-lt-GOSSIP_ROOM : goal.returns-else-out-lt-GOSSIP_ROOM
 returns-else-out-lt-GOSSIP_ROOM c =
     let clear : (let s = c.args in GossipStopOn s.b.now s.msg.now
-    (Clear c.in-Clear.sender c.in-Clear.screens c.in-Clear.count c.in-Clear.stamp c.in-Clear.new)) =
+    (Ok c.in-Ok.incoming)) =
     let s = c.args in
-    subst (λ (x : GossipStop). GossipStopOn s.b.now s.msg.now x) c.in-Clear.is c.gossip_stop-stop.ensures in
+    subst (λ (x : GossipStop). GossipStopOn s.b.now s.msg.now x) c.in-Ok.is c.gossip_stop.ensures in
     let taken : (let s = c.args in
-    Promise (gossip_on s.b.now s.msg.now) c.take_gossip-reply.result c.take_gossip-reply.new.b) =
+    Promise (gossip_on s.b.now s.msg.now) c.take_gossip.result c.take_gossip.new.b) =
     let s = c.args in
-    gossip-owes s.b.now s.msg.now (clear).0 _ _ c.take_gossip-reply.ensures in
+    gossip-owes s.b.now s.msg.now (clear).0 _ _ c.take_gossip.ensures in
     let s = c.args in
-    owes-room (gossip_on s.b.now s.msg.now) s.b.now s.out.now _ _ (taken) _ _ c.put-in-Clear.ensures.value
-    c.put-in-Clear.ensures.out_after
+    owes-room (gossip_on s.b.now s.msg.now) s.b.now s.out.now _ _ (taken) _ _ c.put-in-Ok.ensures.value
+    c.put-in-Ok.ensures.out_after
     (omega (arith, c.if-out-lt-GOSSIP_ROOM.false, gossip-room s.b.now s.msg.now (clear).0))

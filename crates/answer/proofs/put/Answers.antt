@@ -5,8 +5,8 @@ use Rattle.answer.proofs.put.Goals as goal
 
 pub returns : goal.returns
 returns c =
-    let m = c.speak-wrote.ensures in
+    let m = c.speak.ensures in
     record {
-      value = c.long_of.ensures ∙ put-long _ _ _ _ c.requires m;
+      value = c.unwrap_or.ensures ∙ put-long _ _ _ _ c.requires m;
       out_after = put-bytes _ _ _ _ c.requires m;
     }

@@ -4,7 +4,7 @@ use mathlib.Core.Path.{◌≡◌, ap, sym, subst, ◌∙◌}
 use mathlib.Core.List.{List}
 use Rattle.wire.specs.Said as wire
 use Rattle.wire.specs.Write.{Output, Meets, write_as}
-use Rattle.wire.specs.declared.Written.{Written}
+use Rattle.wire.specs.Write.{Written}
 use Rattle.promise.specs.Spoken.{spoken}
 use Rattle.promise.specs.declared.Reply as answer
 use Rattle.answer.specs.Speech.{kind_of, say_on, said_of}

@@ -18,41 +18,41 @@ use Rattle.ask_step.proofs.ask_book.Goals as goal
 pub label_unknown-requires : goal.label_unknown-requires
 label_unknown-requires c =
     record {
-      held = lawful-held c.args.b.now c.requires.t;
-      b_bound = me_in (book_of c.args.b.now) (lawful-sound c.args.b.now c.requires.t);
+      held = lawful-held c.args.b.now c.requires.sound;
+      b_bound = me_in (book_of c.args.b.now) (lawful-sound c.args.b.now c.requires.sound);
     }
 
 pub returns-then-label_unknown : goal.returns-then-label_unknown
 returns-then-label_unknown c =
     let ws = c.args.b.now in
-    sym (line_3 (book_of ws) c.args.prompt (list_of c.args.label) (lawful-sound ws c.requires.t)
-    c.requires.prompt_lt_prompt_count
-    c.requires.t_2 (sym c.label_unknown.ensures ∙ c.if-label_unknown.true))
+    sym (line_3 (book_of ws) c.args.question.prompt (list_of c.args.question.label) (lawful-sound ws c.requires.sound)
+    c.requires.prompt_fits
+    c.requires.label_fits (sym c.label_unknown.ensures ∙ c.if-label_unknown.true))
 
 pub value_of-value-requires : goal.value_of-value-requires
-value_of-value-requires c = lawful-held c.args.b.now c.requires.t
+value_of-value-requires c = lawful-held c.args.b.now c.requires.sound
 
 pub returns-then-not-at_most : goal.returns-then-not-at_most
 returns-then-not-at_most c =
     let own : (let s = c.args in
     ltb (part (known (book_of s.b.now)) (book_of s.b.now).me)
-    (part (list_of s.label) (book_of s.b.now).me) ≡ false) =
+    (part (list_of s.question.label) (book_of s.b.now).me) ≡ false) =
     sym c.label_unknown.ensures ∙ c.if-label_unknown.false in
     let value : c.list_of-covered.result ≡ (book_of c.args.b.now).value =
     c.list_of-covered.ensures ∙ c.value_of-value.ensures in
     let covers : (let s = c.args in
-    c.at_most.result ≡ at_most (list_of s.label) (book_of s.b.now).value) =
+    c.at_most.result ≡ at_most (list_of s.question.label) (book_of s.b.now).value) =
     c.at_most.ensures ∙ ap₂ at_most c.list_of-asked.ensures (value) in
     let ws = c.args.b.now in
     ap wait (c.lacking.ensures.0 ∙ ap₂ excess c.list_of-asked.ensures (value))
-    ∙ sym (line-wait (book_of ws) c.args.prompt (list_of c.args.label) (lawful-sound ws c.requires.t)
-    c.requires.prompt_lt_prompt_count c.requires.t_2 (own) (sym (covers) ∙ not-true _ c.if-not-at_most.true-raw))
+    ∙ sym (line-wait (book_of ws) c.args.question.prompt (list_of c.args.question.label) (lawful-sound ws c.requires.sound)
+    c.requires.prompt_fits c.requires.label_fits (own) (sym (covers) ∙ not-true _ c.if-not-at_most.true-raw))
 
 pub standing_of-s-requires : goal.standing_of-s-requires
 standing_of-s-requires c =
     record {
-      held = lawful-held c.args.b.now c.requires.t;
-      prompt_lt_prompt_count = c.requires.prompt_lt_prompt_count;
+      held = lawful-held c.args.b.now c.requires.sound;
+      prompt_lt_prompt_count = c.requires.prompt_fits;
     }
 
 pub returns : goal.returns
@@ -60,17 +60,17 @@ unfolding answer_of
 returns c =
     let own : (let s = c.args in
     ltb (part (known (book_of s.b.now)) (book_of s.b.now).me)
-    (part (list_of s.label) (book_of s.b.now).me) ≡ false) =
+    (part (list_of s.question.label) (book_of s.b.now).me) ≡ false) =
     sym c.label_unknown.ensures ∙ c.if-label_unknown.false in
     let value : c.list_of-covered.result ≡ (book_of c.args.b.now).value =
     c.list_of-covered.ensures ∙ c.value_of-value.ensures in
     let covers : (let s = c.args in
-    c.at_most.result ≡ at_most (list_of s.label) (book_of s.b.now).value) =
+    c.at_most.result ≡ at_most (list_of s.question.label) (book_of s.b.now).value) =
     c.at_most.ensures ∙ ap₂ at_most c.list_of-asked.ensures (value) in
     let ws = c.args.b.now in
     let r = c.standing_of-s.result in
     ap (λ (k : ℕ). verdict k r.showing r.accepts r.declines (list_of c.value_of-value.result))
     c.verdict_of.ensures
     ∙ ap₂ answer_of c.standing_of-s.ensures c.value_of-value.ensures
-    ∙ sym (line-answer (book_of ws) c.args.prompt (list_of c.args.label) (lawful-sound ws c.requires.t)
-    c.requires.prompt_lt_prompt_count c.requires.t_2 (own) (sym (covers) ∙ not-false _ c.if-not-at_most.false-raw))
+    ∙ sym (line-answer (book_of ws) c.args.question.prompt (list_of c.args.question.label) (lawful-sound ws c.requires.sound)
+    c.requires.prompt_fits c.requires.label_fits (own) (sym (covers) ∙ not-false _ c.if-not-at_most.false-raw))

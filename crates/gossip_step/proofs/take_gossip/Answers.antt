@@ -15,8 +15,8 @@ pub known_of-known-requires : goal.known_of-known-requires
 known_of-known-requires c =
     let ws = c.args.b.now in
     record {
-      held = lawful-held ws c.requires.t;
-      b_bound = me_in (book_of ws) (lawful-sound ws c.requires.t);
+      held = lawful-held ws c.requires.sound;
+      b_bound = me_in (book_of ws) (lawful-sound ws c.requires.sound);
     }
 
 pub take_in-applied-requires : goal.take_in-applied-requires
@@ -24,13 +24,13 @@ take_in-applied-requires c =
     let done : (let b = book_of c.args.b.now in
     let m = message_of c.args.msg.now in
     GossipDone b m × (gossip_step b m ≡ hear_out b m)) =
-    gossip-by-none (book_of c.args.b.now) (message_of c.args.msg.now) c.requires.msg_value in
+    gossip-by-none (book_of c.args.b.now) (message_of c.args.msg.now) c.requires.unstopped in
     record {
-      t = c.requires.t;
+      sound = c.requires.sound;
       heard = c.requires.heard;
       gossip_done = (done).0;
-      value = c.known_of-known.ensures.0;
-      value_2 = c.requires.value;
+      old_known = c.known_of-known.ensures.0;
+      new_number = c.requires.new_number;
     }
 
 pub returns : goal.returns
@@ -38,8 +38,8 @@ returns c =
     let done : (let b = book_of c.args.b.now in
     let m = message_of c.args.msg.now in
     GossipDone b m × (gossip_step b m ≡ hear_out b m)) =
-    gossip-by-none (book_of c.args.b.now) (message_of c.args.msg.now) c.requires.msg_value in
+    gossip-by-none (book_of c.args.b.now) (message_of c.args.msg.now) c.requires.unstopped in
     let b = book_of c.args.b.now in
     let m = message_of c.args.msg.now in
-    owes (gossip_step b m) (hear_out b m) _ _ (done).1 (ap₂ gossiped c.requires.value c.take_in-applied.ensures.value_3)
+    owes (gossip_step b m) (hear_out b m) _ _ (done).1 (ap₂ gossiped c.requires.new_number c.take_in-applied.ensures.applied_number)
     c.take_in-applied.ensures.b_after

@@ -12,44 +12,48 @@ pub ready_of-before-requires : goal.ready_of-before-requires
 ready_of-before-requires c =
     let ws = c.args.b.now in
     record {
-      held = lawful-held ws c.requires.t;
-      b_bound = me_in (book_of ws) (lawful-sound ws c.requires.t);
+      held = lawful-held ws c.requires.sound;
+      b_bound = me_in (book_of ws) (lawful-sound ws c.requires.sound);
     }
 
 pub raise_rows-requires : goal.raise_rows-requires
 raise_rows-requires c =
     let w = c.args in
-    let can = raisable w.b.now w.msg.now w.j w.n w.count (list_of w.m) in
-    let rows = can c.requires.t c.requires.heard c.requires.gossip_done in
+    let can = raisable w.b.now w.msg.now w.incoming.head.sender w.incoming.head.screens w.incoming.head.count
+    (list_of w.incoming.head.stamp) in
+    let rows = can c.requires.sound c.requires.heard c.requires.gossip_done in
     record {
-      held = lawful-held w.b.now c.requires.t;
-      raisable = subst (Raisable (book_of w.b.now) w.j) (sym c.list_of-s.ensures) rows;
+      held = lawful-held w.b.now c.requires.sound;
+      raisable = subst (Raisable (book_of w.b.now) w.incoming.head.sender) (sym c.list_of-s.ensures) rows;
     }
 
 pub take_new-requires : goal.take_new-requires
 take_new-requires c =
     let w = c.args in
-    let give = rows_give w.b.now w.msg.now w.j w.n w.count (list_of w.m) in
-    let all = give c.requires.t c.requires.heard c.requires.gossip_done _ c.list_of-s.ensures _ c.raise_rows.ensures
-    w.old.now c.requires.value w.new c.requires.value_2 in
+    let give = rows_give w.b.now w.msg.now w.incoming.head.sender w.incoming.head.screens w.incoming.head.count
+    (list_of w.incoming.head.stamp) in
+    let all = give c.requires.sound c.requires.heard c.requires.gossip_done _ c.list_of-s.ensures _ c.raise_rows.ensures
+    w.old.now c.requires.old_known w.incoming.new c.requires.new_number in
     record { held = all.0; coming = all.1.0; fresh = all.1.1.0; len_bound = all.1.1.1 }
 
 pub settle_book-requires : goal.settle_book-requires
 settle_book-requires c =
     let w = c.args in
-    let give = new-gives w.b.now w.msg.now w.j w.n w.count (list_of w.m) in
-    let all = give c.requires.t c.requires.heard c.requires.gossip_done _ c.list_of-s.ensures _ c.raise_rows.ensures
-    w.old.now c.requires.value w.new c.requires.value_2 _ c.take_new.ensures _ c.ready_of-before.ensures.0 in
+    let give = new-gives w.b.now w.msg.now w.incoming.head.sender w.incoming.head.screens w.incoming.head.count
+    (list_of w.incoming.head.stamp) in
+    let all = give c.requires.sound c.requires.heard c.requires.gossip_done _ c.list_of-s.ensures _ c.raise_rows.ensures
+    w.old.now c.requires.old_known w.incoming.new c.requires.new_number _ c.take_new.ensures _ c.ready_of-before.ensures.0 in
     record { held = all.0; b_bound = all.1.0; appliable = all.1.1 }
 
 pub returns : goal.returns
 returns c =
     let w = c.args in
-    let is = settled_is w.b.now w.msg.now w.j w.n w.count (list_of w.m) in
+    let is = settled_is w.b.now w.msg.now w.incoming.head.sender w.incoming.head.screens w.incoming.head.count
+    (list_of w.incoming.head.stamp) in
     let e =
-    is c.requires.t c.requires.heard c.requires.gossip_done _ c.list_of-s.ensures _ c.raise_rows.ensures
-    w.old.now c.requires.value w.new c.requires.value_2 _ c.take_new.ensures _ c.ready_of-before.ensures.0 in
+    is c.requires.sound c.requires.heard c.requires.gossip_done _ c.list_of-s.ensures _ c.raise_rows.ensures
+    w.old.now c.requires.old_known w.incoming.new c.requires.new_number _ c.take_new.ensures _ c.ready_of-before.ensures.0 in
     record {
       b_after = c.settle_book.ensures.b_after ∙ e.0;
-      value_3 = c.settle_book.ensures.value ∙ e.1;
+      applied_number = c.settle_book.ensures.value ∙ e.1;
     }

@@ -3,8 +3,8 @@ use Prim.Native.Nat.{◌≤◌, ◌-◌}
 use lib.ListN.{length}
 use Rattle.practice.proofs.try_all.Given as goal
 
-abbrev pub invariant-loop-at : goal.invariant-loop-at
-invariant-loop-at g l = (l.at ≤ length l.file) × (l.agreed ≤ l.total) × (l.total ≤ l.at)
+abbrev pub invariant-loop-name : goal.invariant-loop-name
+invariant-loop-name g l = (l.at ≤ length l.file) × (l.agreed ≤ l.total) × (l.total ≤ l.at)
 
-abbrev pub decreases-loop-at : goal.decreases-loop-at
-decreases-loop-at g l = length l.file - l.at
+abbrev pub decreases-loop-name : goal.decreases-loop-name
+decreases-loop-name g l = length l.file - l.at

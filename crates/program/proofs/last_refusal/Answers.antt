@@ -2,14 +2,10 @@
 use Rattle.program.proofs.Owes.{refusal-said, refusal_unsaid}
 use Rattle.program.proofs.last_refusal.Goals as goal
 
-pub returns-in-Wrote : goal.returns-in-Wrote
-returns-in-Wrote c =
-    let all = refusal-said c.args.number c.args.out.now _ _ c.requires.t c.requires.longest_in_bounds
-    c.speak-wrote.ensures _
-    c.in-Wrote.is in
+pub returns-in-Ok : goal.returns-in-Ok
+returns-in-Ok c =
+    let all = refusal-said c.args.refused c.args.out.now _ _ c.requires c.speak.ensures _ c.in-Ok.is in
     record { value = all.0; out_after = all.1 }
 
-pub returns-in-Refused : goal.returns-in-Refused
-returns-in-Refused c = absurd
-    (refusal_unsaid c.args.number c.args.out.now _ _ c.requires.t c.requires.longest_in_bounds c.speak-wrote.ensures _
-    c.in-Refused.is)
+pub returns-in-Err : goal.returns-in-Err
+returns-in-Err c = absurd (refusal_unsaid c.args.refused c.args.out.now _ _ c.requires c.speak.ensures _ c.in-Err.is)

@@ -1,30 +1,27 @@
 -- `program::more_turn` meets its contract. Assumes nothing.
-use mathlib.Core.Path.{sym, ◌∙◌}
-use borrow.Author.Tests.{not-true, not-false}
 use Rattle.program.proofs.Owes.{one-says, more-reads, more-stops, more_breaks}
+use Rattle.std.proofs.Common.{rules, ◌≡◌, ◌&&◌, true, false, eqb, length}
 use Rattle.program.proofs.more_turn.Goals as goal
+use Rattle.program.proofs.more_turn.Goals.{else-opened-via-then-opened+else-is_empty, else-opened-via-else-opened}
 
 pub returns-then-not-ended : goal.returns-then-not-ended
 returns-then-not-ended c =
     let s = c.args in
-    more-reads s.book.now s.read.now s.ended s.opened s.n s.out.now (not-true _ c.if-not-ended.true-raw)
+    more-reads s.book.now s.read.now s.ended s.opened s.n s.out.now (search rules)
 
-pub returns-then-is_between : goal.returns-then-is_between
-returns-then-is_between c =
+pub returns-then-is_empty : goal.returns-then-is_empty
+returns-then-is_empty c =
     let s = c.args in
-    more-stops s.book.now s.read.now s.ended s.opened s.n s.out.now (not-false _ c.if-not-ended.false-raw)
-    (sym c.is_between.ensures ∙ c.if-is_between.true)
+    let between : (s.opened && eqb (length s.read.now) 0) ≡ true = search rules in
+    more-stops s.book.now s.read.now s.ended s.opened s.n s.out.now (search rules) between
 
-pub last_refusal-requires : goal.last_refusal-requires
-last_refusal-requires c =
-    record {
-      t = one-says;
-      longest_in_bounds = c.requires;
-    }
+pub last_refusal-requires-clause-t : goal.last_refusal-requires-clause-t
+last_refusal-requires-clause-t c = one-says
 
 pub returns : goal.returns
 returns c =
     let s = c.args in
-    more_breaks s.book.now s.read.now s.ended s.opened s.n s.out.now (not-false _ c.if-not-ended.false-raw)
-    (sym c.is_between.ensures ∙ c.if-is_between.false)
+    let inside : (s.opened && eqb (length s.read.now) 0) ≡ false =
+    elim c.else-opened.branch [ else-opened-via-then-opened+else-is_empty w ↦ search rules | else-opened-via-else-opened w ↦ search rules ] in
+    more_breaks s.book.now s.read.now s.ended s.opened s.n s.out.now (search rules) inside
     _ _ c.last_refusal.ensures.value c.last_refusal.ensures.out_after

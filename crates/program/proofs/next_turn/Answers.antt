@@ -1,23 +1,19 @@
 -- `program::next_turn` meets its contract: what is read tells which turn it is. Assumes nothing.
-use Prim.Native.Nat.{◌-◌}
-use native.Mathlib.Omega.{arith}
-use mathlib.Core.Path.{◌≡◌, sym, ◌∙◌}
+use lib.Seq.{length-take-le}
+use mathlib.Core.Path.{sym, ◌∙◌}
 use Rattle.frames.specs.NextLaws.{next-whole}
 use Rattle.program.specs.Said.{bad}
-use Rattle.program.proofs.Owes.{one-says, last-owes, message-part, turn-owes}
+use Rattle.program.proofs.Owes.{one-says, last-owes, turn-owes}
 use Rattle.program.proofs.next_turn.Goals as goal
 
 pub slice_bounds-message_turn-end : goal.slice_bounds-message_turn-end
 slice_bounds-message_turn-end c =
     let s = c.args in
-    (next-whole s.read.now s.opened _ (sym c.next_in-frame.ensures ∙ c.in-Whole.is)).1
+    sym (length-take-le c.in-Whole.n s.read.now
+    (next-whole s.read.now s.opened _ (sym c.next_in-frame.ensures ∙ c.in-Whole.is)).1)
 
-pub last_refusal-requires : goal.last_refusal-requires
-last_refusal-requires c =
-    record {
-      t = one-says;
-      longest_in_bounds = c.requires;
-    }
+pub last_refusal-requires-clause-t : goal.last_refusal-requires-clause-t
+last_refusal-requires-clause-t c = one-says
 
 pub returns-in-More : goal.returns-in-More
 returns-in-More c =
@@ -28,12 +24,8 @@ returns-in-More c =
 pub returns-in-Whole : goal.returns-in-Whole
 returns-in-Whole c =
     let s = c.args in
-    let n = c.in-Whole.n in
-    let front : n - 0 ≡ n = omega arith in
     turn-owes s.book.now s.read.now s.ended s.opened s.out.now _
-    (sym c.in-Whole.is ∙ c.next_in-frame.ensures) _ _ _
-    (message-part s.book.now s.read.now s.opened s.out.now n (n - 0) front _ _ _
-    c.message_turn.ensures)
+    (sym c.in-Whole.is ∙ c.next_in-frame.ensures) _ _ _ c.message_turn.ensures
 
 pub returns-in-Stop : goal.returns-in-Stop
 returns-in-Stop c =

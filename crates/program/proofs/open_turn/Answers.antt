@@ -1,23 +1,14 @@
 -- `program::open_turn` meets its contract. Assumes nothing.
-use Rattle.program.proofs.Owes.{opening-says, opens_silent, opens-refused}
+use Rattle.program.proofs.Owes.{opens_silent, opens-refused}
 use Rattle.program.proofs.open_turn.Goals as goal
 
-pub last_refusal-requires : goal.last_refusal-requires
-last_refusal-requires c =
-    let w = c.args in
-    record {
-      t = opening-says w.book.now w.msg.now _ _ c.open_from-opening.ensures w.out.now _
-          c.in-Refused.is;
-      longest_in_bounds = c.requires;
-    }
-
-pub returns-in-Opened : goal.returns-in-Opened
-returns-in-Opened c =
+pub returns-in-Ok : goal.returns-in-Ok
+returns-in-Ok c =
     let s = c.args in
-    opens_silent s.book.now s.msg.now _ _ c.open_from-opening.ensures s.out.now c.in-Opened.is
+    opens_silent s.book.now s.msg.now _ _ c.open_from.ensures s.out.now c.in-Ok.is
 
-pub returns-in-Refused : goal.returns-in-Refused
-returns-in-Refused c =
+pub returns-in-Err : goal.returns-in-Err
+returns-in-Err c =
     let s = c.args in
-    opens-refused s.book.now s.msg.now _ _ c.open_from-opening.ensures s.out.now _ c.in-Refused.is
+    opens-refused s.book.now s.msg.now _ _ c.open_from.ensures s.out.now _ c.in-Err.is
     _ _ c.last_refusal.ensures.value c.last_refusal.ensures.out_after

@@ -6,9 +6,6 @@ use Rattle.wire.specs.Kinds.{longest}
 use Rattle.lent.specs.Words.{book_long}
 use Rattle.screen.proofs.main.Given as goal
 
-abbrev pub invariant-loop-turns : goal.invariant-loop-turns
-invariant-loop-turns l =
+abbrev pub invariant-loop : goal.invariant-loop
+invariant-loop l =
     (length l.book ≡ book_long) × (length l.msg ≡ longest) × (length l.out ≡ longest) × (l.have ≤ longest)
-
-abbrev pub decreases-loop-turns : goal.decreases-loop-turns
-decreases-loop-turns l = l.turns

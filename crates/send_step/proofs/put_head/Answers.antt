@@ -1,16 +1,6 @@
 -- `send_step::put_head` meets its contract. Assumes nothing.
-use Rattle.lent.specs.SoundWords.{lawful-held}
 use Rattle.send_step.proofs.Turn.{wrote-head}
 use Rattle.send_step.proofs.put_head.Goals as goal
-
-pub screen_of-requires : goal.screen_of-requires
-screen_of-requires c = lawful-held c.args.b.now c.requires.t
-
-pub screens_of-requires : goal.screens_of-requires
-screens_of-requires c = lawful-held c.args.b.now c.requires.t
-
-pub logged_of-requires : goal.logged_of-requires
-logged_of-requires c = lawful-held c.args.b.now c.requires.t
 
 pub returns : goal.returns
 returns c =

@@ -8,35 +8,23 @@ use Rattle.lists.specs.Part.{patch}
 use Rattle.lent.specs.SoundWords.{lawful-held}
 use Rattle.send_step.specs.Parts.{start_at}
 use Rattle.send_step.proofs.Turn.{row-writable, row-bytes}
-use borrow.Author.Rules.{rules}
 use Rattle.send_step.proofs.put_record.Goals as goal
 
-pub log_row-row-requires : goal.log_row-row-requires
-log_row-row-requires c =
-    record {
-      held = lawful-held c.args.b.now c.requires.t;
-      i_in_bounds = c.requires.i_in_bounds.0;
-    }
-
 pub screens_of-requires : goal.screens_of-requires
-screens_of-requires c =
-    lawful-held c.args.b.now c.requires.t
+screens_of-requires c = lawful-held c.args.b.now c.requires.t
 
-pub put_row_at-requires : goal.put_row_at-requires
-put_row_at-requires c =
+pub put_row-requires-clause-t : goal.put_row-requires-clause-t
+put_row-requires-clause-t c =
     let w = c.args in
-    record {
-      row_len = search rules;
-      t = row-writable w.b.now c.requires.t w.m c.requires.m_value w.i c.requires.i_in_bounds.0
-          c.log_row-row.result c.log_row-row.ensures _ c.screens_of.ensures.0;
-    }
+    row-writable w.b.now c.requires.t w.m c.requires.m_value w.i c.requires.i_in_bounds.0
+    c.log_row-row.result c.log_row-row.ensures _ c.screens_of.ensures.0
 
 pub returns : goal.returns
+unfolding patch
 returns c =
     let w = c.args in
     let i = w.i in
     let long : start_at i + record_long - start_at i ≡ record_long = omega arith in
-    c.put_row_at.ensures
-    ∙ ap₂ (λ (j : ℕ) (ys : List ℕ). patch (start_at i) j w.out.now ys) long
-    (row-bytes w.b.now c.requires.t w.m c.requires.m_value i c.requires.i_in_bounds.0 c.log_row-row.result
+    ap₂ (λ (j : ℕ) (ys : List ℕ). patch (start_at i) j w.out.now ys) long
+    (c.put_row.ensures ∙ row-bytes w.b.now c.requires.t w.m c.requires.m_value i c.requires.i_in_bounds.0 c.log_row-row.result
     c.log_row-row.ensures _ c.screens_of.ensures.0)

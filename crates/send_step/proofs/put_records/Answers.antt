@@ -3,13 +3,9 @@ use Prim.Native.Nat.{◌<◌}
 use native.Mathlib.Omega.{arith}
 use mathlib.Core.Path.{◌≡◌, sym, ◌∙◌}
 use lib.ListN.{length}
-use Rattle.lent.specs.SoundWords.{lawful-held}
 use Rattle.lent.specs.Words.{book_of}
 use Rattle.send_step.proofs.Turn.{sent-next, sent-last}
 use Rattle.send_step.proofs.put_records.Goals as goal
-
-pub logged_of-i-end-requires : goal.logged_of-i-end-requires
-logged_of-i-end-requires c = lawful-held c.args.b.now c.requires.t
 
 pub loop-i-preserved : goal.loop-i-preserved
 loop-i-preserved c =

@@ -1,15 +1,10 @@
 -- `send_step::send_book` meets its contract. Assumes nothing.
-use native.Mathlib.Omega.{arith}
 use Rattle.message.specs.Message.{message_bytes}
 use Rattle.meaning.specs.Step.{send}
-use Rattle.lent.specs.SoundWords.{lawful-held}
 use Rattle.lent.specs.Words.{book_of}
 use Rattle.send_step.specs.Parts.{start_at}
 use Rattle.send_step.proofs.Turn.{sent-long, sent-whole, too_short, fits-front}
 use Rattle.send_step.proofs.send_book.Goals as goal
-
-pub logged_of-requires : goal.logged_of-requires
-logged_of-requires c = lawful-held c.args.b.now c.requires
 
 pub returns-then-out-long : goal.returns-then-out-long
 returns-then-out-long c =
@@ -17,14 +12,6 @@ returns-then-out-long c =
     let n = c.logged_of.result in
     too_short (message_bytes (send (book_of ws))) c.args.out.now (start_at n)
     (sent-long ws c.requires n c.logged_of.ensures.0) c.if-out-long.true
-
-pub put_records-requires : goal.put_records-requires
-put_records-requires c =
-    record {
-      t = c.requires;
-      m_value = c.stamp_of-m.ensures;
-      b_in_bounds = omega (arith, c.logged_of.ensures.0);
-    }
 
 pub returns : goal.returns
 returns c =

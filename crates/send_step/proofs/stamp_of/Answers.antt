@@ -2,16 +2,12 @@
 use Rattle.stamp.specs.PartsLaws.{whole-stamp}
 use Rattle.meaning.specs.Book.{known}
 use Rattle.meaning.specs.BookLaws.{me_in, known-fits}
-use Rattle.lent.specs.SoundWords.{lawful-sound, lawful-held}
+use Rattle.lent.specs.SoundWords.{lawful-sound}
 use Rattle.lent.specs.Words.{book_of}
 use Rattle.send_step.proofs.stamp_of.Goals as goal
 
-pub known_of-s-requires : goal.known_of-s-requires
-known_of-s-requires c =
-    record {
-      held = lawful-held c.args.b.now c.requires;
-      b_bound = me_in (book_of c.args.b.now) (lawful-sound c.args.b.now c.requires);
-    }
+pub known_of-s-requires-clause-b_bound : goal.known_of-s-requires-clause-b_bound
+known_of-s-requires-clause-b_bound c = me_in (book_of c.args.b.now) (lawful-sound c.args.b.now c.requires)
 
 pub returns : goal.returns
 returns c =

@@ -46,43 +46,43 @@ unlogged rs t w s gone = ap (λ (x : Tap). exists (holds x) rs) (sym s) ∙ tap-
 pub label_unknown-requires : goal.label_unknown-requires
 label_unknown-requires c =
     record {
-      held = lawful-held c.args.b.now c.requires.t;
-      b_bound = me_in (book_of c.args.b.now) (lawful-sound c.args.b.now c.requires.t);
+      held = lawful-held c.args.b.now c.requires.sound;
+      b_bound = me_in (book_of c.args.b.now) (lawful-sound c.args.b.now c.requires.sound);
     }
 
 pub returns-then-label_unknown : goal.returns-then-label_unknown
 returns-then-label_unknown c =
     let ws = c.args.b.now in
-    line_3 (book_of ws) c.args.tap (list_of c.args.label) (lawful-sound ws c.requires.t) c.requires.t_2
-    c.requires.t_3
+    line_3 (book_of ws) c.args.asked.tap (list_of c.args.asked.label) (lawful-sound ws c.requires.sound) c.requires.tap_fits
+    c.requires.label_fits
     (sym c.label_unknown.ensures ∙ c.if-label_unknown.true)
 
 pub pack-w-requires : goal.pack-w-requires
-pack-w-requires c = fits_bits c.args.tap c.requires.t_2
+pack-w-requires c = fits_bits c.args.asked.tap c.requires.tap_fits
 
 pub is_counted-requires : goal.is_counted-requires
-is_counted-requires c = lawful-held c.args.b.now c.requires.t
+is_counted-requires c = lawful-held c.args.b.now c.requires.sound
 
 pub value_of-requires : goal.value_of-requires
-value_of-requires c = lawful-held c.args.b.now c.requires.t
+value_of-requires c = lawful-held c.args.b.now c.requires.sound
 
 pub returns-then-is_counted : goal.returns-then-is_counted
 returns-then-is_counted c =
     let ws = c.args.b.now in
     let b = book_of ws in
-    let e = ap (among b.counted) (sym (same c.args.tap _ c.requires.t_2 c.pack-w.ensures)) ∙ sym c.is_counted.ensures
+    let e = ap (among b.counted) (sym (same c.args.asked.tap _ c.requires.tap_fits c.pack-w.ensures)) ∙ sym c.is_counted.ensures
     ∙ c.if-is_counted.true in
-    line-counted b c.args.tap (list_of c.args.label) (lawful-sound ws c.requires.t) c.requires.t_2 c.requires.t_3
+    line-counted b c.args.asked.tap (list_of c.args.asked.label) (lawful-sound ws c.requires.sound) c.requires.tap_fits c.requires.label_fits
     (sym c.label_unknown.ensures ∙ c.if-label_unknown.false) e
     ∙ ap (λ (x : Stamp). some (already x)) (sym c.value_of.ensures)
 
 pub find_logged-requires : goal.find_logged-requires
-find_logged-requires c = lawful-held c.args.b.now c.requires.t
+find_logged-requires c = lawful-held c.args.b.now c.requires.sound
 
 pub logged_stamp-requires : goal.logged_stamp-requires
 logged_stamp-requires c =
     record {
-      t = c.requires.t;
+      t = c.requires.sound;
       i_in_bounds = tap-within c.pack-w.result (book_of c.args.b.now).log c.in-Some.i no_record
           (sym c.find_logged.ensures ∙ c.in-Some.is);
     }
@@ -92,57 +92,56 @@ returns-in-Some c =
     let ws = c.args.b.now in
     let rs = (book_of ws).log in
     let w = c.pack-w.result in
-    let s = same c.args.tap _ c.requires.t_2 c.pack-w.ensures in
+    let s = same c.args.asked.tap _ c.requires.tap_fits c.pack-w.ensures in
     let here = sym c.find_logged.ensures ∙ c.in-Some.is in
     let found = ap (λ (x : Tap). exists (holds x) rs) (sym s) ∙ tap-found w rs c.in-Some.i no_record here in
     let says =
     c.logged_stamp.ensures ∙ sym (first-stamp w rs c.in-Some.i no_record here) ∙ ap (λ (x : Tap). first_stamp x rs) s in
-    line-logged (book_of ws) c.args.tap (list_of c.args.label) (lawful-sound ws c.requires.t) c.requires.t_2
-    c.requires.t_3
+    line-logged (book_of ws) c.args.asked.tap (list_of c.args.asked.label) (lawful-sound ws c.requires.sound) c.requires.tap_fits
+    c.requires.label_fits
     (sym c.label_unknown.ensures ∙ c.if-label_unknown.false)
-    (uncounted (book_of ws) c.args.tap _ s c.is_counted.ensures c.if-is_counted.false) found
+    (uncounted (book_of ws) c.args.asked.tap _ s c.is_counted.ensures c.if-is_counted.false) found
     ∙ ap (λ (x : Stamp). some (already x)) (sym says)
 
 pub is_spent-requires : goal.is_spent-requires
-is_spent-requires c = c.requires.t
+is_spent-requires c = c.requires.sound
 
 pub returns-then-is_spent : goal.returns-then-is_spent
 returns-then-is_spent c =
     let ws = c.args.b.now in
-    let s = same c.args.tap _ c.requires.t_2 c.pack-w.ensures in
-    line_7 (book_of ws) c.args.tap (list_of c.args.label) (lawful-sound ws c.requires.t) c.requires.t_2 c.requires.t_3
+    let s = same c.args.asked.tap _ c.requires.tap_fits c.pack-w.ensures in
+    line_7 (book_of ws) c.args.asked.tap (list_of c.args.asked.label) (lawful-sound ws c.requires.sound) c.requires.tap_fits c.requires.label_fits
     (sym c.label_unknown.ensures ∙ c.if-label_unknown.false)
-    (uncounted (book_of ws) c.args.tap _ s c.is_counted.ensures c.if-is_counted.false)
-    (unlogged (book_of ws).log c.args.tap _ s (sym c.find_logged.ensures ∙ c.in_default.is))
+    (uncounted (book_of ws) c.args.asked.tap _ s c.is_counted.ensures c.if-is_counted.false)
+    (unlogged (book_of ws).log c.args.asked.tap _ s (sym c.find_logged.ensures ∙ c.in_default.is))
     (sym c.is_spent.ensures ∙ c.if-is_spent.true)
 
 pub logged_of-requires : goal.logged_of-requires
-logged_of-requires c = lawful-held c.args.b.now c.requires.t
+logged_of-requires c = lawful-held c.args.b.now c.requires.sound
 
 pub returns-then-log_room-logged_of : goal.returns-then-log_room-logged_of
 returns-then-log_room-logged_of c =
     let ws = c.args.b.now in
-    let s = same c.args.tap _ c.requires.t_2 c.pack-w.ensures in
+    let s = same c.args.asked.tap _ c.requires.tap_fits c.pack-w.ensures in
     let full = le-leb log_room (length (book_of ws).log)
     (omega (arith, c.log_room.ensures, c.logged_of.ensures.0, c.if-log_room-logged_of.true)) in
-    line_9 (book_of ws) c.args.tap (list_of c.args.label) (lawful-sound ws c.requires.t) c.requires.t_2 c.requires.t_3
+    line_9 (book_of ws) c.args.asked.tap (list_of c.args.asked.label) (lawful-sound ws c.requires.sound) c.requires.tap_fits c.requires.label_fits
     (sym c.label_unknown.ensures ∙ c.if-label_unknown.false)
-    (uncounted (book_of ws) c.args.tap _ s c.is_counted.ensures c.if-is_counted.false)
-    (unlogged (book_of ws).log c.args.tap _ s (sym c.find_logged.ensures ∙ c.in_default.is))
+    (uncounted (book_of ws) c.args.asked.tap _ s c.is_counted.ensures c.if-is_counted.false)
+    (unlogged (book_of ws).log c.args.asked.tap _ s (sym c.find_logged.ensures ∙ c.in_default.is))
     (sym c.is_spent.ensures ∙ c.if-is_spent.false) full
 
 pub returns : goal.returns
 returns c =
     let ws = c.args.b.now in
-    let s = same c.args.tap _ c.requires.t_2 c.pack-w.ensures in
+    let s = same c.args.asked.tap _ c.requires.tap_fits c.pack-w.ensures in
     let room = lt-leb log_room (length (book_of ws).log)
     (omega (arith, c.log_room.ensures, c.logged_of.ensures.0, c.if-log_room-logged_of.false)) in (
-      line_clear (book_of ws) c.args.tap (list_of c.args.label) (lawful-sound ws c.requires.t) c.requires.t_2
-          c.requires.t_3
+      line_clear (book_of ws) c.args.asked.tap (list_of c.args.asked.label) (lawful-sound ws c.requires.sound) c.requires.tap_fits
+          c.requires.label_fits
           (sym c.label_unknown.ensures ∙ c.if-label_unknown.false)
-          (uncounted (book_of ws) c.args.tap _ s c.is_counted.ensures c.if-is_counted.false)
-          (unlogged (book_of ws).log c.args.tap _ s (sym c.find_logged.ensures ∙ c.in_default.is))
+          (uncounted (book_of ws) c.args.asked.tap _ s c.is_counted.ensures c.if-is_counted.false)
+          (unlogged (book_of ws).log c.args.asked.tap _ s (sym c.find_logged.ensures ∙ c.in_default.is))
           (sym c.is_spent.ensures ∙ c.if-is_spent.false) room,
-      refl,
       refl,
     )

@@ -18,27 +18,27 @@ use Rattle.tap_step.proofs.take_tap.Goals as goal
 pub pack-w-requires : goal.pack-w-requires
 pack-w-requires c =
     let done : (let b = book_of c.args.b.now in
-    let t = c.args.tap in
-    let l = list_of c.args.label in
+    let t = c.args.asked.tap in
+    let l = list_of c.args.asked.label in
     TakeDone b (says t) l × (tap_step b t l ≡ take_out b (says t) l)) =
-    let w = c.args in tap-by-none (book_of w.b.now) w.tap (list_of w.label) c.requires.label_value in
-    fits_bits c.args.tap (done).0.said_fits_lem
+    let w = c.args in tap-by-none (book_of w.b.now) w.asked.tap (list_of w.asked.label) c.requires.unstopped in
+    fits_bits c.args.asked.tap (done).0.said_fits_lem
 
 pub enter-requires : goal.enter-requires
 enter-requires c =
     let done : (let b = book_of c.args.b.now in
-    let t = c.args.tap in
-    let l = list_of c.args.label in
+    let t = c.args.asked.tap in
+    let l = list_of c.args.asked.label in
     TakeDone b (says t) l × (tap_step b t l ≡ take_out b (says t) l)) =
-    let w = c.args in tap-by-none (book_of w.b.now) w.tap (list_of w.label) c.requires.label_value in
-    let same : body_of c.pack-w.result ≡ says c.args.tap =
-    let t = c.args.tap in
+    let w = c.args in tap-by-none (book_of w.b.now) w.asked.tap (list_of w.asked.label) c.requires.unstopped in
+    let same : body_of c.pack-w.result ≡ says c.args.asked.tap =
+    let t = c.args.asked.tap in
     ap body_of (c.pack-w.ensures ∙ sym (says-word t)) ∙ body-word (says t) (done).0.said_fits_lem in
     let ws = c.args.b.now in
-    let l = list_of c.args.label in
-    let fits = subst (λ w. T (body_fits w)) (sym c.pack-w.ensures) (tap-body c.args.tap (done).0.said_fits_lem) in
+    let l = list_of c.args.asked.label in
+    let fits = subst (λ w. T (body_fits w)) (sym c.pack-w.ensures) (tap-body c.args.asked.tap (done).0.said_fits_lem) in
     record {
-      held = lawful-held ws c.requires.t;
+      held = lawful-held ws c.requires.sound;
       t = fits;
       take_done = subst (λ (x : Body). TakeDone (book_of ws) x l) (sym (same)) (done).0;
     }
@@ -46,16 +46,16 @@ enter-requires c =
 pub returns : goal.returns
 returns c =
     let done : (let b = book_of c.args.b.now in
-    let t = c.args.tap in
-    let l = list_of c.args.label in
+    let t = c.args.asked.tap in
+    let l = list_of c.args.asked.label in
     TakeDone b (says t) l × (tap_step b t l ≡ take_out b (says t) l)) =
-    let w = c.args in tap-by-none (book_of w.b.now) w.tap (list_of w.label) c.requires.label_value in
-    let same : body_of c.pack-w.result ≡ says c.args.tap =
-    let t = c.args.tap in
+    let w = c.args in tap-by-none (book_of w.b.now) w.asked.tap (list_of w.asked.label) c.requires.unstopped in
+    let same : body_of c.pack-w.result ≡ says c.args.asked.tap =
+    let t = c.args.asked.tap in
     ap body_of (c.pack-w.ensures ∙ sym (says-word t)) ∙ body-word (says t) (done).0.said_fits_lem in
     let b = book_of c.args.b.now in
-    let t = c.args.tap in
-    let l = list_of c.args.label in
+    let t = c.args.asked.tap in
+    let l = list_of c.args.asked.label in
     owes (tap_step b t l) (take_out b (says t) l) _ _ (done).1
     (ap taken (c.enter.ensures.result_value ∙ ap (λ (x : Body). stamp_of (new_record b x l)) (same)))
     (c.enter.ensures.b_after ∙ ap (λ (x : Body). words_of (take_book b x l)) (same))
