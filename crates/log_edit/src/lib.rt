@@ -19,13 +19,7 @@ fn staying(r: &[u64], i: usize, row: &[u64; ROW]) -> usize
     requires t { T (rising place (records_at i r.now)) }
     ensures { Parted i row.now r.now result }
 {
-    let rows = rows_of::<ROW>(r, i);
-    for n in (0..i).rev() {
-        if !stands_before(row, &rows[n]) {
-            return n + 1;
-        }
-    }
-    0
+    rows_of::<ROW>(r, i).partition_point(|other| !stands_before(row, other))
 }
 
 // The words from a place up to another moved up.
