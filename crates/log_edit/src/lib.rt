@@ -1,4 +1,5 @@
 // Rows of the log moved in place: new records merged in from the back, records that may go dropped from the front.
+// Kept: rows are written as words at their places; of a slice lent as `&mut [[u64; ROW]]` no clause says how it ends.
 #![tactic(auto)]
 
 ghost use Rattle.std.specs.Prelude.{◌≡◌, [], ◌∷◌, ◌++◌, ◌+◌, ◌-◌, ◌*◌, ◌≤◌, T, length, take, drop, replicate};
