@@ -1,12 +1,12 @@
 // The prompts in their region of a book: for each the showing, accepts and declines.
 #![tactic(auto)]
 
-ghost use Rattle.std.specs.Prelude.{◌≡◌, [], ◌+◌, ◌*◌, ◌≤◌, ◌<◌, length, get_or, set};
+ghost use Rattle.std.specs.Prelude.{◌≡◌, [], ◌+◌, ◌*◌, ◌<◌, length, get_or, set};
 ghost use Rattle.limits.specs.Limits.{prompt_count, count_limit};
 ghost use Rattle.tally.specs.Standing.{CountsFit, blank, afresh, same_counts};
 ghost use Rattle.tally.specs.Tap.{tap_of};
 ghost use Rattle.taps.specs.Region.{taps_in};
-ghost use Rattle.prompts.specs.Region.{standing_long, prompt_words, standings_at, standing_words, noted_at};
+ghost use Rattle.prompts.specs.Region.{prompt_words, standings_at, standing_words, noted_at};
 
 use limits::PROMPT_COUNT;
 use tally::{Standing, noted, unpack};

@@ -1,7 +1,7 @@
 // The counted taps in their region of a book: one word for each, the first n in use, strictly rising.
 #![tactic(auto)]
 
-ghost use Rattle.std.specs.Prelude.{◌≡◌, not, ◌≤◌, ◌<◌, T, length};
+ghost use Rattle.std.specs.Prelude.{◌≡◌, not, ◌<◌, T, length};
 ghost use Rattle.lists.specs.Order.{rising};
 ghost use Rattle.lists.specs.Tests.{every};
 ghost use Rattle.tally.specs.Standing.{among};
