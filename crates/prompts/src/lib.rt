@@ -1,7 +1,7 @@
 // The prompts in their region of a book: for each the showing, accepts and declines.
 #![tactic(auto)]
 
-ghost use Rattle.std.specs.Prelude.{◌≡◌, [], ◌+◌, ◌*◌, ◌<◌, length, get_or, set};
+ghost use Rattle.std.specs.Prelude.{◌≡◌, [], ◌<◌, length, get_or, set};
 ghost use Rattle.limits.specs.Limits.{prompt_count, count_limit};
 ghost use Rattle.tally.specs.Standing.{CountsFit, blank, afresh, same_counts};
 ghost use Rattle.tally.specs.Tap.{tap_of};

@@ -1,7 +1,7 @@
 // Send: the known stamp and the whole log as one gossip message at the front of a lent output.
 #![tactic(auto, using(crate::proofs::Held::held))]
 
-ghost use Rattle.std.specs.Prelude.{◌≡◌, ◌+◌, ◌≤◌, ◌<◌, T, length};
+ghost use Rattle.std.specs.Prelude.{◌≡◌, ◌≤◌, T, length};
 ghost use Rattle.stamp.specs.Parts.{list_of};
 ghost use Rattle.book_log.specs.Region.{record_at};
 ghost use Rattle.wire.specs.Kinds.{record_kind, head_long, record_long};
