@@ -115,12 +115,8 @@ fn answer_send(b: &[u64], out: &mut [u8]) -> usize
 {
     match send(b, out) {
         Ok(long) => long,
-        Err(refusal) => {
-            if refusal.number() == Refusal::Short.number() {
-                return 0;
-            }
-            put(Reply::Refused(refusal), out)
-        }
+        Err(Refusal::Short) => 0,
+        Err(refusal) => put(Reply::Refused(refusal), out),
     }
 }
 
@@ -164,11 +160,7 @@ pub fn answer(b: &mut [u64], msg: &[u8], out: &mut [u8]) -> usize
 pub fn reply_room(msg: &[u8]) -> usize
     ensures { result ≡ room_for msg.now }
 {
-    let room = room_of(kind_of(msg));
-    if room == 0 {
-        return REFUSAL_ROOM;
-    }
-    room
+    room_of(kind_of(msg)).unwrap_or(REFUSAL_ROOM)
 }
 
 // Kind 11's bytes open the lent book.

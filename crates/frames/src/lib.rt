@@ -32,7 +32,7 @@ fn is_expected(kind: u8, opened: bool) -> bool
     ensures { result ≡ expected opened kind }
 {
     if opened {
-        0 < room_of(kind)
+        room_of(kind).is_some()
     } else {
         kind == OPEN
     }

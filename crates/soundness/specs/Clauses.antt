@@ -1,10 +1,9 @@
 -- A book's clauses as they are tested, group by group: by the lowest stamp of the table, and without those that follow
 -- from the others. Assumes nothing.
-use Rattle.std.specs.Prelude.{ℕ, ◌+◌, ◌*◌, Bool, not, ◌||◌, List, [], ◌∷◌, leb, length, take, drop}
+use Rattle.std.specs.Prelude.{ℕ, ◌+◌, Bool, not, ◌||◌, List, [], ◌∷◌, leb, length, get_or}
 use Rattle.lists.specs.Order.{rising}
-use Rattle.lists.specs.Rows.{rows}
 use Rattle.lists.specs.Tests.{all, every}
-use Rattle.limits.specs.Limits.{parts, book_room}
+use Rattle.limits.specs.Limits.{book_room}
 use Rattle.stamp.specs.Stamp.{Stamp, stamp_fits, total, at_most}
 use Rattle.tally.specs.Standing.{afresh, same_counts}
 use Rattle.tally.specs.Body.{body_fits}
@@ -15,10 +14,7 @@ use Rattle.ledger.specs.Log.{waiting_in}
 use Rattle.ledger.specs.Record.{Record, place, is_applied}
 use Rattle.book_log.specs.Held.{holds_all}
 use Rattle.book_log.specs.Lowest.{lowest_from}
-use Rattle.book_log.specs.Region.{records_at}
 use Rattle.book_log.specs.RowSound.{row_sound}
-use Rattle.taps.specs.Region.{taps_at}
-use Rattle.prompts.specs.Region.{standings_at}
 use Rattle.meaning.specs.Book.{counted_in}
 
 -- the rows and the value stamp are stamps of a house of n screens
@@ -58,10 +54,9 @@ region_rules n known ready table value log counted prompts =
     ∷ same_counts prompts (afresh counted)
     ∷ []
 
--- all of it on the pieces behind the numbers; today the ready stamp is the known stamp
-unfoldable pub piece_rules : List ℕ → ℕ → ℕ → List ℕ → List ℕ → ℕ → List ℕ → ℕ → List ℕ → List Bool
-piece_rules table i n value log logged counted taps prompts =
-    all (fit_rules n (rows parts n table) value)
-    ∷ all (region_rules n (take parts (drop (i * parts) table)) (take parts (drop (i * parts) table))
-    (rows parts n table) value (records_at logged log) (taps_at taps counted) (standings_at prompts))
+-- all of it; the known stamp is row i of the table, and today the ready stamp is the known stamp
+unfoldable pub piece_rules : ℕ → List Stamp → Stamp → List Record → List Tap → List Standing → List Bool
+piece_rules i table value log counted prompts =
+    all (fit_rules (length table) table value)
+    ∷ all (region_rules (length table) (get_or table i []) (get_or table i []) table value log counted prompts)
     ∷ []

@@ -2,18 +2,19 @@
 -- nothing.
 --     sound_is        a book whose numbers are in range is sound exactly when its groups of clauses hold
 --     lawful-words    words of the right shape, their numbers in range, are sound exactly when their pieces pass
-use Rattle.std.specs.Prelude.{ℕ, zero, suc, ◌≤◌, ◌<◌, ◌+◌, ◌≡◌, Bool, false, not, ◌&&◌, ◌||◌, leb, get_or}
+use Rattle.std.specs.Prelude.{ℕ, zero, suc, ◌≤◌, ◌<◌, ◌+◌, ◌*◌, ◌≡◌, Bool, false, not, ◌&&◌, ◌||◌, leb, get_or}
 use Rattle.std.proofs.Common.{arith, sym, ap, ◌∙◌, leb→le}
-use Rattle.std.proofs.Math.Path.{subst}
-use Rattle.std.proofs.Math.Bool.{true, and-true, and-false}
+use Rattle.std.proofs.Math.Path.{refl, subst}
+use Rattle.std.proofs.Math.Bool.{true, and-false}
 use mathlib.Core.List.{List, [], ◌∷◌}
-use borrow.Author.Tests.{eq-eqb, ne_eqb, le-leb}
+use borrow.Author.Tests.{eq-eqb, ne_eqb}
 use Rattle.std.proofs.Math.Dec.{T, le→leb}
 use Rattle.std.proofs.Math.ListN.{length}
 use Rattle.lists.specs.TestLaws.{◌∈◌, get_or_in, and_l, and_r, both, given, all_from, ◌also◌, done, every-from}
 use Rattle.lists.specs.TestLaws.{same_test}
 use Rattle.lists.proofs.ElementLaws.{eq→eqb, every-same}
-use Rattle.lists.specs.RowLaws.{length-rows, rows_at}
+use Rattle.lists.specs.RowLaws.{length-rows}
+use Rattle.lists.specs.Rows.{rows}
 use Rattle.lists.specs.Tests.{all, every}
 use Rattle.limits.specs.Limits.{parts, most, log_room, book_room}
 use Rattle.stamp.specs.Stamp.{Stamp, total, at_most}
@@ -29,13 +30,15 @@ use Rattle.book_log.specs.Held.{holds_all}
 use Rattle.book_log.proofs.HeldLaws.{all_held-climb}
 use Rattle.book_log.specs.Lowest.{lowest_from, goes_by}
 use Rattle.book_log.proofs.LowestLaws.{may_go_lowest}
+use Rattle.book_log.specs.Region.{row_long, records_at}
 use Rattle.book_log.specs.RegionLaws.{length-records}
+use Rattle.taps.specs.Region.{taps_at}
+use Rattle.prompts.specs.Region.{standings_at}
 use Rattle.book_log.specs.RowSound.{row_sound, rows_sound_is, record_fits_is}
 use Rattle.meaning.specs.Book.{Book, known, ready, row, waiting, clauses, sound}
 use Rattle.meaning.specs.ReadyKnown.{ready-known}
-use Rattle.lent.specs.Lay.{at_place}
-use Rattle.lent.specs.Words.{Name, piece_of, rank, book_long, shape_rules, Screen, Screens, Logged, Taps, Table, Value}
-use Rattle.lent.specs.Words.{Log, Counted, Prompts, piece, number_in, book_of, in_shape, lawful}
+use Rattle.lent.specs.Words.{book_long, shape_rules, Screen, Screens, Logged, Taps, Table, Value}
+use Rattle.lent.specs.Words.{Log, Counted, Prompts, piece, number_in, zero_from, book_of, in_shape, lawful}
 use Rattle.lent.specs.WordsLaws.{log-few}
 use Rattle.soundness.specs.Clauses.{fit_rules, within_rules, log_rules, counted_rules, region_rules, piece_rules}
 
@@ -189,9 +192,9 @@ pub record Numbers (ws : List ℕ) : Type 0 where
 -- all that is tested of the pieces of a slice
 unfoldable pub word_rules : List ℕ → List Bool
 word_rules ws =
-    piece_rules (piece Table ws) (number_in Screen ws) (number_in Screens ws) (piece Value ws) (piece Log ws)
-    (number_in Logged ws) (piece Counted ws) (number_in Taps ws)
-    (piece Prompts ws)
+    piece_rules (number_in Screen ws) (rows parts (number_in Screens ws) (piece Table ws)) (piece Value ws)
+    (records_at (number_in Logged ws) (piece Log ws)) (taps_at (number_in Taps ws) (piece Counted ws))
+    (standings_at (piece Prompts ws))
 
 module _ (ws : List ℕ) where
   pub lawful_misshapen : in_shape ws ≡ false → lawful ws ≡ false
@@ -211,34 +214,35 @@ module _ (ws : List ℕ) where
       let n = number_in Screens ws in
       let few : length (book_of ws).log ≤ log_room =
       omega (arith, length-records (number_in Logged ws) (piece Log ws), log-few ws shape) in
-      let own = rows_at parts n (piece Table ws) (number_in Screen ws) (range-me (number_in Screen ws) n range) in
-      rw e (sound_is (book_of ws) range (length-rows parts n (piece Table ws)) few ∙ rw (ready-known (book_of ws), own))
+      let long = length-rows parts n (piece Table ws) in
+      rw e (sound_is (book_of ws) range long few ∙ rw (ready-known (book_of ws), long))
 
--- the shape of a slice, rule by rule
+-- the rules of a slice's shape, once it has the one length: its numbers, then its unused places
+abbrev pub number_rules : List ℕ → List Bool
+number_rules ws =
+    leb (number_in Screens ws) most ∷ leb (number_in Logged ws) log_room ∷ leb (number_in Taps ws) book_room ∷ []
+
+abbrev pub zero_rules : List ℕ → List Bool
+zero_rules ws =
+    zero_from (number_in Screens ws * parts) (piece Table ws)
+    ∷ zero_from (number_in Logged ws * row_long) (piece Log ws)
+    ∷ zero_from (number_in Taps ws) (piece Counted ws)
+    ∷ []
+
+three_first : (a b c d : Bool) → (a && (b && (c && d))) ≡ ((a && (b && (c && true))) && d)
+three_first true true true d = refl
+three_first true true false d = refl
+three_first true false c d = refl
+three_first false b c d = refl
+
 module _ (ws : List ℕ) where
-  pub shape-off : (n : Name) → (piece_of n).rule (λ m. piece m ws) ≡ false → in_shape ws ≡ false
-  unfolding in_shape
-  shape-off n e = all-off (shape_rules ws) (suc (rank n))
-      (at_place (λ k. (piece_of k).rule (λ m. piece m ws)) true n ∙ e)
-
   pub shape-short : (length ws ≡ book_long → ⊥) → in_shape ws ≡ false
   unfolding in_shape
   shape-short n = all-off (shape_rules ws) 0 (ne_eqb (length ws) book_long n)
 
-  -- with all the others kept, that of the counted taps decides
-  pub shape-last :
-      length ws ≡ book_long → number_in Screens ws ≤ most → number_in Logged ws ≤ log_room
-      → number_in Taps ws ≤ book_room
-      → (piece_of Table).rule (λ m. piece m ws) ≡ true → (piece_of Log).rule (λ m. piece m ws) ≡ true
-      → in_shape ws ≡ (piece_of Counted).rule (λ m. piece m ws)
+  pub shape_is : length ws ≡ book_long → in_shape ws ≡ (all (number_rules ws) && all (zero_rules ws))
   unfolding in_shape
-  shape-last e n l t table log =
-      rw (
-        eq-eqb (length ws) book_long e,
-        le-leb (number_in Screens ws) most n,
-        le-leb (number_in Logged ws) log_room l,
-        le-leb (number_in Taps ws) book_room t,
-        table,
-        log,
-        and-true,
-      )
+  shape_is e =
+      rw (eq-eqb (length ws) book_long e)
+      (three_first (leb (number_in Screens ws) most) (leb (number_in Logged ws) log_room) (leb (number_in Taps ws) book_room)
+      (all (zero_rules ws)))

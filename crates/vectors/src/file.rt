@@ -5,30 +5,23 @@ ghost use Rattle.vectors.specs.File.{field_at, entry_at};
 use numbers::number_at;
 
 // The bytes from the first place up to the second.
-#[derive(Clone, Copy)]
+#[derive(Clone, Copy, Debug, PartialEq, Eq)]
 pub struct Part {
     pub start: usize,
     pub end: usize,
 }
 
-// A field's bytes, or that the file ends inside it or the field is too long.
-#[derive(Clone, Copy)]
-enum Field {
-    Stands(Part),
-    Broken,
+// A vector's fields.
+#[derive(Clone, Copy, Debug, PartialEq, Eq)]
+pub struct Vector {
+    pub name: Part,
+    pub input: Part,
+    pub output: Part,
 }
 
-// A vector's fields; or the byte 0 that ends the file; or that there is neither.
-#[derive(Clone, Copy)]
-pub enum NextVector {
-    Vector {
-        name: Part,
-        input: Part,
-        output: Part,
-    },
-    End,
-    Cut,
-}
+// The file ends inside a field, or a field is too long.
+#[derive(Clone, Copy, Debug, PartialEq, Eq)]
+pub struct Cut;
 
 // Room for the longest file of vectors, and a byte more.
 pub const FILE_ROOM: usize = 900001;
@@ -42,48 +35,42 @@ const BYTES_WIDTH: usize = 4;
 const LONGEST_FIELD: u64 = 60000;
 
 // The field whose length is told by so many bytes at a place.
-fn field_at(file: &[u8], at: usize, width: usize) -> Field
+#[tactic(auto, unfolding(crate::specs::File::field_at))]
+fn field_at(file: &[u8], at: usize, width: usize) -> Result<Part, Cut>
     requires { (at ≤ length file.now) × (width ≤ 8) }
     ensures { result ≡ field_at at width file.now }
 {
     if file.len() - at < width {
-        return Field::Broken;
+        return Err(Cut);
     }
     let long = number_at(file, at, width);
     if LONGEST_FIELD < long {
-        return Field::Broken;
+        return Err(Cut);
     }
     let start = at + width;
-    if file.len() - start < long as usize {
-        return Field::Broken;
+    let long = long as usize;
+    if file.len() - start < long {
+        return Err(Cut);
     }
-    let end = start + long as usize;
-    Field::Stands(Part { start, end })
+    let end = start + long;
+    Ok(Part { start, end })
 }
 
-// The vector, or the end, that stands at a place.
-pub fn entry_at(file: &[u8], at: usize) -> NextVector
+// The vector that stands at a place, or none where the byte 0 that ends the file stands there.
+#[tactic(auto, using(crate::specs::FileLaws::field_within), unfolding(crate::specs::File::entry_at))]
+pub fn entry_at(file: &[u8], at: usize) -> Result<Option<Vector>, Cut>
     requires { at ≤ length file.now }
     ensures { result ≡ entry_at at file.now }
 {
-    let first = field_at(file, at, NAME_WIDTH);
-    let Field::Stands(name) = first else {
-        return NextVector::Cut;
-    };
+    let name = field_at(file, at, NAME_WIDTH)?;
     if name.start == name.end {
-        return NextVector::End;
+        return Ok(None);
     }
-    let second = field_at(file, name.end, BYTES_WIDTH);
-    let Field::Stands(input) = second else {
-        return NextVector::Cut;
-    };
-    let third = field_at(file, input.end, BYTES_WIDTH);
-    let Field::Stands(output) = third else {
-        return NextVector::Cut;
-    };
-    NextVector::Vector {
+    let input = field_at(file, name.end, BYTES_WIDTH)?;
+    let output = field_at(file, input.end, BYTES_WIDTH)?;
+    Ok(Some(Vector {
         name,
         input,
         output,
-    }
+    }))
 }

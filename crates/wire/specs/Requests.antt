@@ -1,6 +1,6 @@
 -- The requests that a screen takes once its book is open: each kind, and how long the longest reply to it is. Assumes
 -- nothing.
-use Rattle.std.specs.Prelude.{ℕ, ◌+◌, Bool, cond, List, [], ◌∷◌, eqb, ltb}
+use Rattle.std.specs.Prelude.{ℕ, ◌+◌, Bool, cond, List, [], ◌∷◌, eqb, Option, Some, None, is_some}
 use Rattle.stamp.specs.Stamp.{total}
 use Rattle.limits.specs.KindNumbers.{head_number, tap_number, question_number, send_number}
 use Rattle.wire.specs.Kinds.{longest, gossip_taken_body}
@@ -27,13 +27,13 @@ abbrev pub request_table : List (ℕ × ℕ)
 request_table =
     (head_number, gossip_long) ∷ (tap_number, tap_long) ∷ (question_number, question_long) ∷ (send_number, longest) ∷ []
 
-abbrev pub room_in : List (ℕ × ℕ) → ℕ → ℕ
-room_in [] k = 0
-room_in (l ∷ t) k = cond (eqb k l.0) l.1 (room_in t k)
+abbrev pub room_in : List (ℕ × ℕ) → ℕ → Option ℕ
+room_in [] k = None
+room_in (l ∷ t) k = cond (eqb k l.0) (Some l.1) (room_in t k)
 
--- the room that is always enough for the reply to a request of the kind: 0 where the kind is no request's
-unfoldable pub reply_room : ℕ → ℕ
+-- the room that is always enough for the reply to a request of the kind: none where the kind is no request's
+unfoldable pub reply_room : ℕ → Option ℕ
 reply_room k = room_in request_table k
 
 unfoldable pub is_request : ℕ → Bool
-is_request k = ltb 0 (reply_room k)
+is_request k = is_some (reply_room k)

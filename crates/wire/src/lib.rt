@@ -202,16 +202,16 @@ const TAP_ROOM: usize = KIND_SIZE + TAKEN_BODY;
 
 const QUESTION_ROOM: usize = KIND_SIZE + VERDICT_BODY;
 
-// The room that is always enough for the reply to a request of this kind; 0 where the kind is no request's.
-pub fn room_of(kind: u8) -> usize
+// The room that is always enough for the reply to a request of this kind; none where the kind is no request's.
+pub fn room_of(kind: u8) -> Option<usize>
     ensures { result ≡ reply_room kind }
 {
     match kind {
-        HEAD => GOSSIP_ROOM,
-        TAP => TAP_ROOM,
-        QUESTION => QUESTION_ROOM,
-        SEND => LONGEST,
-        _ => 0,
+        HEAD => Some(GOSSIP_ROOM),
+        TAP => Some(TAP_ROOM),
+        QUESTION => Some(QUESTION_ROOM),
+        SEND => Some(LONGEST),
+        _ => None,
     }
 }
 

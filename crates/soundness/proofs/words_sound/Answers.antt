@@ -1,25 +1,12 @@
 -- `soundness::words_sound` meets its contract. Assumes nothing.
 use native.Mathlib.Omega.{arith}
-use mathlib.Core.Path.{◌≡◌, refl, ◌∙◌}
-use Prim.Native.Nat.{ℕ}
-use mathlib.Core.List.{List}
+use mathlib.Core.Path.{sym, ◌∙◌}
 use lib.ListN.{get_or}
-use Rattle.limits.specs.LimitLaws.{log_small, book_small}
-use Rattle.lent.specs.Lay.{number_word}
-use Rattle.lent.specs.Words.{Screen, Screens, Logged, Taps, size, from, book_long, number_in}
-use Rattle.soundness.specs.SoundLaws.{word_rules}
+use Rattle.std.proofs.Common.{length-take-le}
+use Rattle.limits.specs.LimitLaws.{log_small, book_small, most-parts}
+use Rattle.lent.specs.Words.{size, book_long}
+use Rattle.soundness.proofs.Shape.{placed, pieces_read}
 use Rattle.soundness.proofs.words_sound.Goals as goal
-
-numbers : (ws : List ℕ)
-    → (number_in Screen ws ≡ get_or ws (from Screen) 0) × (number_in Screens ws ≡ get_or ws (from Screens) 0)
-    × (number_in Logged ws ≡ get_or ws (from Logged) 0) × (number_in Taps ws ≡ get_or ws (from Taps) 0)
-unfolding size
-numbers ws = (
-  number_word ws Screen refl,
-  number_word ws Screens refl,
-  number_word ws Logged refl,
-  number_word ws Taps refl,
-)
 
 pub bounds-b-0 : goal.bounds-b-0
 unfolding book_long
@@ -37,39 +24,50 @@ pub bounds-b-3 : goal.bounds-b-3
 unfolding book_long
 bounds-b-3 c = omega (arith, c.requires.b_len)
 
+pub rows_of-requires : goal.rows_of-requires
+unfolding size
+rows_of-requires c = (omega arith, omega (arith, placed c.args.b.now c.requires.numbers, c.table_words.ensures.1))
+
+pub rows_of-requires-2 : goal.rows_of-requires-2
+unfolding size
+rows_of-requires-2 c = (omega arith, omega (arith, c.value_words.ensures.1))
+
+pub rows_of-requires-3 : goal.rows_of-requires-3
+unfolding size
+rows_of-requires-3 c = (omega arith, omega (arith, placed c.args.b.now c.requires.numbers, c.log_words.ensures.1))
+
+pub slice_bounds-p-end : goal.slice_bounds-p-end
+unfolding size
+slice_bounds-p-end c =
+    sym (length-take-le _ c.counted_words.result.now
+    (omega (arith, placed c.args.b.now c.requires.numbers, c.counted_words.ensures.1)))
+
 pub pieces_sound-requires : goal.pieces_sound-requires
-unfolding from
+unfolding size
 pieces_sound-requires c =
-    let n = c.requires.numbers in
-    let e = numbers c.args.b.now in
+    let n = placed c.args.b.now c.requires.numbers in
+    let taps = length-take-le (get_or c.args.b.now 3 0) c.counted_words.result.now
+    (omega (arith, n, c.counted_words.ensures.1)) in
     record {
-      parts_in_bounds = (
-        omega (arith, n, e, c.table_words.ensures.1),
-        omega (arith, n, e),
-        omega (arith, n, e),
-        omega (arith, c.value_words.ensures.1),
-      );
-      row_long_in_bounds = (omega (arith, n, e, c.log_words.ensures.1), omega (arith, n, e, log_small));
-      taps_in_bounds = (
-        omega (arith, n, e, c.counted_words.ensures.1),
-        omega (arith, n, e, book_small),
+      i_in_bounds = (omega (arith, n, c.rows_of.ensures.1), omega (arith, n, c.rows_of.ensures.1, most-parts));
+      few = (
+        omega (arith, n, c.rows_of-3.ensures.1, log_small),
+        omega (arith, n, taps, book_small),
         c.prompt_words.ensures.1,
       );
     }
 
 pub returns : goal.returns
-unfolding word_rules from
 returns c =
-    let e = numbers c.args.b.now in
     c.pieces_sound.ensures
     ∙ rw (
+      c.rows_of.ensures.0,
       c.table_words.ensures.0,
+      c.rows_of-2.ensures.0,
       c.value_words.ensures.0,
+      c.rows_of-3.ensures.0,
       c.log_words.ensures.0,
       c.counted_words.ensures.0,
       c.prompt_words.ensures.0,
-      e.0,
-      e.1,
-      e.2,
-      e.3,
     )
+    (pieces_read c.args.b.now c.requires.b_len)

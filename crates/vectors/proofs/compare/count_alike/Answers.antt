@@ -1,28 +1,23 @@
 -- `vectors::compare::count_alike` meets its contract. Assumes nothing.
-use native.Mathlib.Omega.{arith}
-use Rattle.vectors.specs.CompareLaws.{alike-more, alike-off, alike_end, alike_all}
+use Rattle.std.proofs.Common.{rules, ℕ, Bool, eqb, sym, ◌∙◌}
+use Rattle.std.specs.List.{zip}
+use Rattle.std.proofs.lemmas.Iterator.{YieldsList-from_slice, YieldsList-from_zip}
+use Rattle.std.proofs.lemmas.Iterator.Consumers.{count_from_yields_List}
+use Rattle.std.proofs.lemmas.Iterator.Search.{YieldsList-from_take_while}
+use Rattle.std.proofs.lemmas.List.Folds.{length-prefix_len}
+use Rattle.vectors.specs.CompareLaws.{alike_zip}
 use Rattle.vectors.proofs.compare.count_alike.Goals as goal
 
-pub returns-then-expected-i : goal.returns-then-expected-i
-returns-then-expected-i c =
-    let s = c.args in
-    omega (arith, alike_end s.said.now s.expected.now c.loop-i.i c.if-expected-i.true)
-
-pub returns-then-said-i : goal.returns-then-said-i
-returns-then-said-i c =
-    let s = c.args in
-    omega (arith, alike-off s.said.now s.expected.now c.loop-i.i (omega arith) (omega arith) c.if-said-i.true)
-
-pub loop-i-preserved : goal.loop-i-preserved
-loop-i-preserved c =
-    let s = c.args in
-    let more = alike-more s.said.now s.expected.now c.loop-i.i (omega arith) (omega arith) c.if-said-i.false in
-    (omega arith, omega (arith, more))
+agree : ℕ × ℕ → Bool
+agree p = eqb p.0 p.1
 
 pub returns : goal.returns
+unfolding agree
 returns c =
-    let s = c.args in
-    omega (arith, alike_all s.said.now s.expected.now c.loop-i.i c.loop-i-test.false)
-
-pub loop-i-init : goal.loop-i-init
-loop-i-init c = (omega arith, omega arith)
+    let said = c.args.said.now in
+    let expected = c.args.expected.now in
+    count_from_yields_List c.take_while.result _ c.count.ensures.ran
+    (YieldsList-from_take_while _ agree
+    (YieldsList-from_zip (YieldsList-from_slice said (search rules)) (YieldsList-from_slice expected (search rules)))
+    c.take_while.ensures.closure c.take_while.ensures.done (λ x b q k. search rules))
+    ∙ length-prefix_len agree (zip said expected) ∙ sym (alike_zip said expected)
