@@ -56,7 +56,8 @@ module _ (b : Book) (s : Sound b) where
 
   pub send-on : (out : List ℕ) → send_on (words_of b) out ≡ put_front (message_bytes (send b)) out
   unfolding send_on
-  send-on out = ap (λ (c : Bool). cond c (put_front (message_bytes (send (book_of (words_of b)))) out) (refuse Unsound out))
+  send-on out = ap (λ (c : Bool). cond c (put_front (message_bytes (send (book_of (words_of b)))) out)
+  (refuse Unsound out))
       lawful-now ∙ ap (λ (x : Book). put_front (message_bytes (send x)) out) book-back
 
 -- send answers by the first of its stops that holds
@@ -95,7 +96,8 @@ answer_back (says.Taken s) = ap says.Taken (parts_list s)
 answer_back (says.Already s) = ap says.Already (parts_list s)
 answer_back (says.Verdict v) =
     ap (λ (s : Parts).
-    says.Verdict (record { verdict = v.verdict; showing = v.showing; accepts = v.accepts; declines = v.declines; value = s }))
+    says.Verdict (record { verdict = v.verdict; showing = v.showing; accepts = v.accepts; declines = v.declines;
+    value = s }))
     (parts_list v.value)
 answer_back (says.Wait bits) = refl
 answer_back (says.Refused r) = ap says.Refused (numbered_back r)

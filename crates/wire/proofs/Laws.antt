@@ -106,7 +106,8 @@ module _ (k : Kind) (l : Lawful k) where
   shape-from bytes e n =
       both (eqb (get_or bytes 0 0) k.number) (is_long (body_by k.number) (length bytes))
       (eq→eqb (get_or bytes 0 0) k.number e)
-      (subst (λ (b : Result ℕ Refusal). T (is_long b (length bytes))) (sym l.long) (eq→eqb (length bytes) (size_of k) n))
+      (subst (λ (b : Result ℕ Refusal). T (is_long b (length bytes))) (sym l.long) (eq→eqb (length bytes)
+      (size_of k) n))
 
   module _ (bytes : List ℕ) (r : T (readable k bytes)) where
     shape : T (shaped k.number bytes)
@@ -176,7 +177,8 @@ module _ (k : Kind) (l : Lawful k) where
   pub one_writing : (a b : List ℕ) → Bytes a → Bytes b → T (readable k a) → T (readable k b) → read_as k a ≡ read_as k b
       → a ≡ b
   one_writing a b p q r s e =
-      sym (written_read a r p).1 ∙ ap (λ (v : Result Said Refusal). written k (read_figures v)) e ∙ (written_read b s q).1
+      sym (written_read a r p).1 ∙ ap (λ (v : Result Said Refusal). written k (read_figures v)) e
+      ∙ (written_read b s q).1
 
 -- what a line says, by its number: a kind's house and stamp judge a line, and do not change what it says
 kinds : List Kind

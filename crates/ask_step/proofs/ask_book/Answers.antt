@@ -45,7 +45,8 @@ returns-then-not-at_most c =
     c.at_most.ensures ∙ ap₂ at_most c.list_of-asked.ensures (value) in
     let ws = c.args.b.now in
     ap wait (c.lacking.ensures.0 ∙ ap₂ excess c.list_of-asked.ensures (value))
-    ∙ sym (line-wait (book_of ws) c.args.question.prompt (list_of c.args.question.label) (lawful-sound ws c.requires.sound)
+    ∙ sym (line-wait (book_of ws) c.args.question.prompt (list_of c.args.question.label)
+    (lawful-sound ws c.requires.sound)
     c.requires.prompt_fits c.requires.label_fits (own) (sym (covers) ∙ not-true _ c.if-not-at_most.true-raw))
 
 pub standing_of-s-requires : goal.standing_of-s-requires
@@ -72,5 +73,6 @@ returns c =
     ap (λ (k : ℕ). verdict k r.showing r.accepts r.declines (list_of c.value_of-value.result))
     c.verdict_of.ensures
     ∙ ap₂ answer_of c.standing_of-s.ensures c.value_of-value.ensures
-    ∙ sym (line-answer (book_of ws) c.args.question.prompt (list_of c.args.question.label) (lawful-sound ws c.requires.sound)
+    ∙ sym (line-answer (book_of ws) c.args.question.prompt (list_of c.args.question.label)
+    (lawful-sound ws c.requires.sound)
     c.requires.prompt_fits c.requires.label_fits (own) (sym (covers) ∙ not-false _ c.if-not-at_most.false-raw))

@@ -25,15 +25,18 @@ look_at-requires c =
     record {
       head = h.head;
       msg_value = h.number;
-      n_bound = house-few w.b.now w.msg.now w.head.sender w.head.screens w.head.count (list_of w.head.stamp) c.requires.sound h
+      n_bound = house-few w.b.now w.msg.now w.head.sender w.head.screens w.head.count
+          (list_of w.head.stamp) c.requires.sound h
           c.requires.stamp_stands;
     }
 
 pub returns-in_default : goal.returns-in_default
 returns-in_default c =
     let w = c.args in
-    gap-refused w.b.now w.msg.now w.head.sender w.head.screens w.head.count (list_of w.head.stamp) c.requires.sound c.requires.heard
-    c.requires.stamp_stands _ c.known_of-known.ensures.0 _ refl (untold _ _ (sym c.look_at.ensures.value ∙ c.in_default.is))
+    gap-refused w.b.now w.msg.now w.head.sender w.head.screens w.head.count
+    (list_of w.head.stamp) c.requires.sound c.requires.heard
+    c.requires.stamp_stands _ c.known_of-known.ensures.0 _ refl (untold _ _ (sym c.look_at.ensures.value
+    ∙ c.in_default.is))
 
 pub logged_of-requires : goal.logged_of-requires
 logged_of-requires c =
@@ -50,7 +53,8 @@ pub returns-then-log_room-logged_of : goal.returns-then-log_room-logged_of
 returns-then-log_room-logged_of c =
     let w = c.args in
     let seen = told _ _ _ (sym c.look_at.ensures.value ∙ c.in-Some.is) in
-    room-refused w.b.now w.msg.now w.head.sender w.head.screens w.head.count (list_of w.head.stamp) c.requires.sound c.requires.heard
+    room-refused w.b.now w.msg.now w.head.sender w.head.screens w.head.count
+    (list_of w.head.stamp) c.requires.sound c.requires.heard
     c.requires.stamp_stands _ c.known_of-known.ensures.0 _ refl seen.0 _ seen.1 _ c.logged_of.ensures.0
     (omega (arith, c.log_room.ensures, c.if-log_room-logged_of.true))
 
@@ -58,10 +62,12 @@ pub returns : goal.returns
 returns c =
     let w = c.args in
     let seen = told _ _ _ (sym c.look_at.ensures.value ∙ c.in-Some.is) in (
-      unrefused w.b.now w.msg.now w.head.sender w.head.screens w.head.count (list_of w.head.stamp) c.requires.sound c.requires.heard
+      unrefused w.b.now w.msg.now w.head.sender w.head.screens w.head.count
+          (list_of w.head.stamp) c.requires.sound c.requires.heard
           c.requires.stamp_stands _ c.known_of-known.ensures.0 _ refl seen.0 _ seen.1 _ c.logged_of.ensures.0
           (omega (arith, c.log_room.ensures, c.if-log_room-logged_of.false)),
       refl,
-      new_is w.b.now w.msg.now w.head.sender w.head.screens w.head.count (list_of w.head.stamp) c.requires.sound c.requires.heard
+      new_is w.b.now w.msg.now w.head.sender w.head.screens w.head.count
+          (list_of w.head.stamp) c.requires.sound c.requires.heard
           c.requires.stamp_stands _ c.known_of-known.ensures.0 _ refl seen.0 _ seen.1,
     )

@@ -41,5 +41,6 @@ returns c =
     gossip-by-none (book_of c.args.b.now) (message_of c.args.msg.now) c.requires.unstopped in
     let b = book_of c.args.b.now in
     let m = message_of c.args.msg.now in
-    owes (gossip_step b m) (hear_out b m) _ _ (done).1 (ap₂ gossiped c.requires.new_number c.take_in-applied.ensures.applied_number)
+    owes (gossip_step b m) (hear_out b m) _ _ (done).1 (ap₂ gossiped c.requires.new_number
+    c.take_in-applied.ensures.applied_number)
     c.take_in-applied.ensures.b_after

@@ -42,7 +42,8 @@ settle_book-requires c =
     let give = new-gives w.b.now w.msg.now w.incoming.head.sender w.incoming.head.screens w.incoming.head.count
     (list_of w.incoming.head.stamp) in
     let all = give c.requires.sound c.requires.heard c.requires.gossip_done _ c.list_of-s.ensures _ c.raise_rows.ensures
-    w.old.now c.requires.old_known w.incoming.new c.requires.new_number _ c.take_new.ensures _ c.ready_of-before.ensures.0 in
+    w.old.now c.requires.old_known w.incoming.new c.requires.new_number _ c.take_new.ensures _
+    c.ready_of-before.ensures.0 in
     record { held = all.0; b_bound = all.1.0; appliable = all.1.1 }
 
 pub returns : goal.returns
@@ -52,7 +53,8 @@ returns c =
     (list_of w.incoming.head.stamp) in
     let e =
     is c.requires.sound c.requires.heard c.requires.gossip_done _ c.list_of-s.ensures _ c.raise_rows.ensures
-    w.old.now c.requires.old_known w.incoming.new c.requires.new_number _ c.take_new.ensures _ c.ready_of-before.ensures.0 in
+    w.old.now c.requires.old_known w.incoming.new c.requires.new_number _ c.take_new.ensures _
+    c.ready_of-before.ensures.0 in
     record {
       b_after = c.settle_book.ensures.b_after ∙ e.0;
       applied_number = c.settle_book.ensures.value ∙ e.1;

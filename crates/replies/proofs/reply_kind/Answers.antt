@@ -59,7 +59,8 @@ returns-then-is_ok-6 c =
       settled verdict_kind _ verdict_says _ c.read_verdict.ensures c.is_ok-3.ensures.value c.if-is_ok-3.false,
       settled wait_kind _ said.Wait _ c.read_wait.ensures c.is_ok-4.ensures.value c.if-is_ok-4.false,
       settled refusal_kind _ said.Refusal _ c.read_refusal.ensures c.is_ok-5.ensures.value c.if-is_ok-5.false,
-      settled gossip_taken_kind _ gossip_taken_says _ c.read_gossip_taken.ensures c.is_ok-6.ensures.value c.if-is_ok-6.true,
+      settled gossip_taken_kind _ gossip_taken_says _ c.read_gossip_taken.ensures c.is_ok-6.ensures.value
+          c.if-is_ok-6.true,
     )
 
 pub returns : goal.returns
@@ -71,5 +72,6 @@ returns c =
       settled verdict_kind _ verdict_says _ c.read_verdict.ensures c.is_ok-3.ensures.value c.if-is_ok-3.false,
       settled wait_kind _ said.Wait _ c.read_wait.ensures c.is_ok-4.ensures.value c.if-is_ok-4.false,
       settled refusal_kind _ said.Refusal _ c.read_refusal.ensures c.is_ok-5.ensures.value c.if-is_ok-5.false,
-      settled gossip_taken_kind _ gossip_taken_says _ c.read_gossip_taken.ensures c.is_ok-6.ensures.value c.if-is_ok-6.false,
+      settled gossip_taken_kind _ gossip_taken_says _ c.read_gossip_taken.ensures c.is_ok-6.ensures.value
+          c.if-is_ok-6.false,
     )

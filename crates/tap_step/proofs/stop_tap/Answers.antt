@@ -53,7 +53,8 @@ label_unknown-requires c =
 pub returns-then-label_unknown : goal.returns-then-label_unknown
 returns-then-label_unknown c =
     let ws = c.args.b.now in
-    line_3 (book_of ws) c.args.asked.tap (list_of c.args.asked.label) (lawful-sound ws c.requires.sound) c.requires.tap_fits
+    line_3 (book_of ws) c.args.asked.tap (list_of c.args.asked.label)
+    (lawful-sound ws c.requires.sound) c.requires.tap_fits
     c.requires.label_fits
     (sym c.label_unknown.ensures ∙ c.if-label_unknown.true)
 
@@ -70,9 +71,11 @@ pub returns-then-is_counted : goal.returns-then-is_counted
 returns-then-is_counted c =
     let ws = c.args.b.now in
     let b = book_of ws in
-    let e = ap (among b.counted) (sym (same c.args.asked.tap _ c.requires.tap_fits c.pack-w.ensures)) ∙ sym c.is_counted.ensures
+    let e = ap (among b.counted) (sym (same c.args.asked.tap _ c.requires.tap_fits c.pack-w.ensures))
+    ∙ sym c.is_counted.ensures
     ∙ c.if-is_counted.true in
-    line-counted b c.args.asked.tap (list_of c.args.asked.label) (lawful-sound ws c.requires.sound) c.requires.tap_fits c.requires.label_fits
+    line-counted b c.args.asked.tap (list_of c.args.asked.label)
+    (lawful-sound ws c.requires.sound) c.requires.tap_fits c.requires.label_fits
     (sym c.label_unknown.ensures ∙ c.if-label_unknown.false) e
     ∙ ap (λ (x : Stamp). some (already x)) (sym c.value_of.ensures)
 
@@ -97,7 +100,8 @@ returns-in-Some c =
     let found = ap (λ (x : Tap). exists (holds x) rs) (sym s) ∙ tap-found w rs c.in-Some.i no_record here in
     let says =
     c.logged_stamp.ensures ∙ sym (first-stamp w rs c.in-Some.i no_record here) ∙ ap (λ (x : Tap). first_stamp x rs) s in
-    line-logged (book_of ws) c.args.asked.tap (list_of c.args.asked.label) (lawful-sound ws c.requires.sound) c.requires.tap_fits
+    line-logged (book_of ws) c.args.asked.tap (list_of c.args.asked.label)
+    (lawful-sound ws c.requires.sound) c.requires.tap_fits
     c.requires.label_fits
     (sym c.label_unknown.ensures ∙ c.if-label_unknown.false)
     (uncounted (book_of ws) c.args.asked.tap _ s c.is_counted.ensures c.if-is_counted.false) found
@@ -110,7 +114,8 @@ pub returns-then-is_spent : goal.returns-then-is_spent
 returns-then-is_spent c =
     let ws = c.args.b.now in
     let s = same c.args.asked.tap _ c.requires.tap_fits c.pack-w.ensures in
-    line_7 (book_of ws) c.args.asked.tap (list_of c.args.asked.label) (lawful-sound ws c.requires.sound) c.requires.tap_fits c.requires.label_fits
+    line_7 (book_of ws) c.args.asked.tap (list_of c.args.asked.label)
+    (lawful-sound ws c.requires.sound) c.requires.tap_fits c.requires.label_fits
     (sym c.label_unknown.ensures ∙ c.if-label_unknown.false)
     (uncounted (book_of ws) c.args.asked.tap _ s c.is_counted.ensures c.if-is_counted.false)
     (unlogged (book_of ws).log c.args.asked.tap _ s (sym c.find_logged.ensures ∙ c.in_default.is))
@@ -125,7 +130,8 @@ returns-then-log_room-logged_of c =
     let s = same c.args.asked.tap _ c.requires.tap_fits c.pack-w.ensures in
     let full = le-leb log_room (length (book_of ws).log)
     (omega (arith, c.log_room.ensures, c.logged_of.ensures.0, c.if-log_room-logged_of.true)) in
-    line_9 (book_of ws) c.args.asked.tap (list_of c.args.asked.label) (lawful-sound ws c.requires.sound) c.requires.tap_fits c.requires.label_fits
+    line_9 (book_of ws) c.args.asked.tap (list_of c.args.asked.label)
+    (lawful-sound ws c.requires.sound) c.requires.tap_fits c.requires.label_fits
     (sym c.label_unknown.ensures ∙ c.if-label_unknown.false)
     (uncounted (book_of ws) c.args.asked.tap _ s c.is_counted.ensures c.if-is_counted.false)
     (unlogged (book_of ws).log c.args.asked.tap _ s (sym c.find_logged.ensures ∙ c.in_default.is))
@@ -137,7 +143,8 @@ returns c =
     let s = same c.args.asked.tap _ c.requires.tap_fits c.pack-w.ensures in
     let room = lt-leb log_room (length (book_of ws).log)
     (omega (arith, c.log_room.ensures, c.logged_of.ensures.0, c.if-log_room-logged_of.false)) in (
-      line_clear (book_of ws) c.args.asked.tap (list_of c.args.asked.label) (lawful-sound ws c.requires.sound) c.requires.tap_fits
+      line_clear (book_of ws) c.args.asked.tap (list_of c.args.asked.label)
+          (lawful-sound ws c.requires.sound) c.requires.tap_fits
           c.requires.label_fits
           (sym c.label_unknown.ensures ∙ c.if-label_unknown.false)
           (uncounted (book_of ws) c.args.asked.tap _ s c.is_counted.ensures c.if-is_counted.false)
