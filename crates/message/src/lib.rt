@@ -17,6 +17,7 @@ use wire::{HEAD_SIZE, Head, RECORD_SIZE, Record, Refusal};
 const ORIGIN: usize = 1;
 
 // Record i, handed on as a part of the message from its own first byte. The head has n screens and stamp m.
+#[tactic(auto, unfolding(crate::specs::Find::part_at, lists::specs::Part::mid))]
 pub fn record_at(msg: &[u8], i: usize, n: usize, m: Parts) -> Result<Record, Refusal>
     requires { head_long + (i + 1) * record_long ≤ length msg.now }
     ensures { says record_says result ≡ read_as (record_kind n (list_of m)) (part_at i msg.now) }
@@ -27,6 +28,7 @@ pub fn record_at(msg: &[u8], i: usize, n: usize, m: Parts) -> Result<Record, Ref
 
 // Whether the records keep their rules and rise: each is compared with the one before it. Numbers start at 1, so every
 // record comes after number 0 of origin 0.
+#[tactic(auto, using(crate::proofs::Turn::passing))]
 fn in_order(msg: &[u8], count: usize, n: usize, m: Parts) -> bool
     requires { head_long + count * record_long ≤ length msg.now }
     ensures { result ≡ in_order (record_kind n (list_of m)) (parts_of count msg.now) }
