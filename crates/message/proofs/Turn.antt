@@ -158,6 +158,3 @@ below-count o count bytes = omega (
   count_by-le-length (λ p. ltb (origin_of p) o) (parts_of count bytes),
   length-parts count bytes,
 )
-
--- what the pass over the records goes by
-pub ruleset passing = (pass_start, pass_unread, pass_falls, pass_on, pass-end)

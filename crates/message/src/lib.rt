@@ -28,7 +28,6 @@ pub fn record_at(msg: &[u8], i: usize, n: usize, m: Parts) -> Result<Record, Ref
 
 // Whether the records keep their rules and rise: each is compared with the one before it. Numbers start at 1, so every
 // record comes after number 0 of origin 0.
-#[tactic(auto, using(crate::proofs::Turn::passing))]
 fn in_order(msg: &[u8], count: usize, n: usize, m: Parts) -> bool
     requires { head_long + count * record_long ≤ length msg.now }
     ensures { result ≡ in_order (record_kind n (list_of m)) (parts_of count msg.now) }
