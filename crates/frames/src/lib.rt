@@ -39,6 +39,7 @@ fn is_expected(kind: u8, opened: bool) -> bool
 }
 
 // A head's count fixes how many records follow.
+#[tactic(auto, using(crate::proofs::Lines::counted_head), unfolding(crate::specs::Frame::gossip_frame))]
 fn gossip_frame(read: &[u8]) -> Frame
     ensures { result ≡ gossip_frame read.now }
 {
@@ -52,6 +53,7 @@ fn gossip_frame(read: &[u8]) -> Frame
     Frame::Whole(HEAD_SIZE + count as usize * RECORD_SIZE)
 }
 
+#[tactic(auto, using(crate::proofs::Lines::first_byte))]
 pub fn frame_of(read: &[u8], opened: bool) -> Frame
     ensures { result ≡ frame_of read.now opened }
 {
@@ -71,6 +73,7 @@ pub fn frame_of(read: &[u8], opened: bool) -> Frame
 }
 
 // Whether record k of a gossip message has its kind, as far as that byte is read.
+#[tactic(auto, using(crate::proofs::Lines::counted_head))]
 fn record_stands(read: &[u8], k: usize) -> bool
     requires { k < log_room }
     ensures { result ≡ record_stands read.now k }
@@ -88,6 +91,7 @@ fn records_stand(read: &[u8], count: usize) -> bool
 }
 
 // Whether every piece of a message has its kind, as far as it is read.
+#[tactic(auto, using(crate::proofs::Lines::counted_head), unfolding(crate::specs::Next::kinds_stand))]
 fn kinds_stand(read: &[u8]) -> bool
     requires read_nonzero { 0 < length read.now }
     requires counted { Counted read.now }
@@ -101,6 +105,7 @@ fn kinds_stand(read: &[u8]) -> bool
 }
 
 // The next message in what is read: whole only when all of it is there and each piece of it has its kind.
+#[tactic(auto, using(crate::specs::NextLaws::counted), unfolding(crate::specs::Next::next_of))]
 pub fn next_in(read: &[u8], opened: bool) -> Frame
     ensures { result ≡ next_of read.now opened }
 {

@@ -17,6 +17,7 @@ use wire::{HEAD_SIZE, Head, RECORD_SIZE, Record, Refusal};
 const ORIGIN: usize = 1;
 
 // Record i, handed on as a part of the message from its own first byte. The head has n screens and stamp m.
+#[tactic(auto, unfolding(crate::specs::Find::part_at, lists::specs::Part::mid))]
 pub fn record_at(msg: &[u8], i: usize, n: usize, m: Parts) -> Result<Record, Refusal>
     requires { head_long + (i + 1) * record_long ≤ length msg.now }
     ensures { says record_says result ≡ read_as (record_kind n (list_of m)) (part_at i msg.now) }
