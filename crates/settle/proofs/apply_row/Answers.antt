@@ -1,12 +1,8 @@
 -- `settle::apply_row` meets its contract. Assumes nothing.
-use Prim.Native.Nat.{◌<◌}
-use mathlib.Core.Path.{sym, ap, subst, ◌∙◌}
-use lib.Dec.{T}
-use Rattle.limits.specs.Limits.{parts}
+use mathlib.Core.Path.{sym, ap, ◌∙◌}
 use Rattle.ledger.specs.Record.{Record}
 use Rattle.lent.specs.Words.{book_of, words_of}
 use Rattle.settle.specs.Moves.{added, is_newly_applied}
-use Rattle.settle.specs.Ready.{Countable}
 use Rattle.settle.proofs.Turn.{apply-off, apply-on}
 use Rattle.settle.proofs.apply_row.Goals as goal
 
@@ -18,20 +14,6 @@ returns-then-not-is_newly_applied c =
     record {
       b_after = sym (ap words_of (apply-off w.before.now w.s.now _ (book_of w.b.now) e) ∙ c.requires.held.words);
       value = sym e;
-    }
-
-pub apply_record-requires : goal.apply_record-requires
-apply_record-requires c =
-    let w = c.args in
-    let same = c.log_row-row.ensures in
-    let e = ap (is_newly_applied w.before.now w.s.now) (sym same) ∙ sym c.is_newly_applied.ensures
-    ∙ c.if-not-is_newly_applied.false in
-    let p = c.requires.applicable in
-    record {
-      held = c.requires.held;
-      origin = subst (λ (r : Record). r.origin < parts) (sym same) p.origin;
-      countable = subst (λ (r : Record). Countable r.body (book_of w.b.now)) (sym same)
-          (p.countable (subst T (sym e) tt));
     }
 
 pub returns : goal.returns
