@@ -2,7 +2,7 @@
 // input has ended.
 #![tactic(auto)]
 
-ghost use Rattle.std.specs.Prelude.{◌≡◌, false, ◌&&◌, ◌++◌, ◌≤◌, length, drop};
+ghost use Rattle.std.specs.Prelude.{◌≡◌, false, ◌++◌, ◌≤◌, length, drop};
 ghost use Rattle.wire.specs.Kinds.{longest};
 ghost use Rattle.answer.specs.Speech.{refusal_bytes};
 ghost use Rattle.program.specs.Turn.{more_turn, message_turn, turn_on, Turns};

@@ -1,12 +1,12 @@
 // The prompts in their region of a book: for each the showing, accepts and declines.
 #![tactic(auto)]
 
-ghost use Rattle.std.specs.Prelude.{◌≡◌, [], ◌+◌, ◌*◌, ◌≤◌, ◌<◌, length, get_or, set};
+ghost use Rattle.std.specs.Prelude.{◌≡◌, [], ◌<◌, length, get_or, set};
 ghost use Rattle.limits.specs.Limits.{prompt_count, count_limit};
 ghost use Rattle.tally.specs.Standing.{CountsFit, blank, afresh, same_counts};
 ghost use Rattle.tally.specs.Tap.{tap_of};
-ghost use Rattle.taps.specs.Region.{taps_in};
-ghost use Rattle.prompts.specs.Region.{standing_long, prompt_words, standings_at, standing_words, noted_at};
+ghost use Rattle.taps.specs.Region.{word_taps};
+ghost use Rattle.prompts.specs.Region.{prompt_words, standings_at, standing_words, noted_at};
 
 use limits::PROMPT_COUNT;
 use tally::{Standing, noted, unpack};
@@ -59,7 +59,7 @@ fn tabulate(table: &mut [u64], taps: &[u64])
     requires table_len { length table.old ≡ prompt_words }
     requires table_value { standings_at table.old ≡ afresh [] }
     requires few { length taps.now < count_limit }
-    ensures table_after { standings_at table.new ≡ afresh (taps_in taps.now) }
+    ensures table_after { standings_at table.new ≡ afresh (word_taps taps.now) }
     ensures table_len_2 { length table.new ≡ prompt_words }
 {
     for w in taps {
@@ -71,7 +71,7 @@ fn tabulate(table: &mut [u64], taps: &[u64])
 pub fn counts_follow(r: &[u64], taps: &[u64]) -> bool
     requires r_len { length r.now ≡ prompt_words }
     requires few { length taps.now < count_limit }
-    ensures { result ≡ same_counts (standings_at r.now) (afresh (taps_in taps.now)) }
+    ensures { result ≡ same_counts (standings_at r.now) (afresh (word_taps taps.now)) }
 {
     let mut table = [0u64; PROMPT_WORDS];
     tabulate(&mut table, taps);

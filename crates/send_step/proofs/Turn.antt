@@ -2,10 +2,10 @@
 use Prim.Native.Nat.{ℕ, ◌+◌, ◌≤◌, ◌<◌}
 use native.Mathlib.Omega.{arith}
 use mathlib.Core.Path.{◌≡◌, sym, ap, ap₂, subst, ◌∙◌}
-use mathlib.Core.List.{List, ◌∷◌, ◌++◌, append-nil}
+use mathlib.Core.List.{List, [], ◌∷◌, ◌++◌, append-nil}
 use borrow.Author.Tests.{le-ltb, lt-ltb}
 use lib.Dec.{T}
-use lib.ListN.{length, get_or, drop, drop_of_length-le}
+use lib.ListN.{length, get_or, get_or-map, drop, drop_of_length-le}
 use Rattle.lists.specs.TestLaws.{get_or_in, is_true}
 use Rattle.lists.specs.Part.{patch}
 use Rattle.stamp.specs.Parts.{parts_at, list_of}
@@ -16,7 +16,8 @@ use Rattle.tally.specs.Body.{body_fits}
 use Rattle.tally.specs.Tap.{fields, tap_of}
 use Rattle.tally.specs.declared.Tap.{Tap}
 use Rattle.ledger.specs.Message.{message_fits}
-use Rattle.book_log.specs.Region.{row_long, record_at, body_place}
+use Rattle.ledger.specs.Record.{Record}
+use Rattle.book_log.specs.Region.{row_long, record_at, records_of, body_place}
 use Rattle.wire.specs.Kinds.{Kind, size_of, head_kind, record_kind, head_long, record_long}
 use Rattle.wire.proofs.Returns.{meets}
 use Rattle.wire.specs.Said.{figures}
@@ -71,6 +72,11 @@ module _ (row : List ℕ) (n : ℕ) (m label : Parts) (tap : Tap) (long : length
       ∙ ap (λ (l : List ℕ). written (record_kind n (list_of m)) (line_for (record_at row)) ++ l)
       (drop_of_length-le out none)
       ∙ append-nil (written (record_kind n (list_of m)) (line_for (record_at row)))
+
+-- the record that a row of the log holds
+pub held_record : (rows : List (List ℕ)) (log : List Record) (i : ℕ) → records_of rows ≡ log
+    → record_at (get_or rows i []) ≡ get_or log i no_record
+held_record rows log i e = sym (get_or-map record_at rows i []) ∙ ap (λ (rs : List Record). get_or rs i no_record) e
 
 module _ (ws : List ℕ) (h : T (lawful ws)) where
   sent-fits : T (message_fits body_fits (send (book_of ws)))

@@ -1,22 +1,20 @@
 // Send: the known stamp and the whole log as one gossip message at the front of a lent output.
 #![tactic(auto, using(crate::proofs::Held::held))]
 
-ghost use Rattle.std.specs.Prelude.{◌≡◌, ◌+◌, ◌≤◌, ◌<◌, T, length, get_or};
-ghost use Rattle.lists.specs.Part.{patch};
+ghost use Rattle.std.specs.Prelude.{◌≡◌, ◌≤◌, T, length};
 ghost use Rattle.stamp.specs.Parts.{list_of};
-ghost use Rattle.book_log.specs.Region.{row_long, record_at};
+ghost use Rattle.book_log.specs.Region.{record_at};
 ghost use Rattle.wire.specs.Kinds.{record_kind, head_long, record_long};
 ghost use Rattle.wire.specs.Write.{Meets, writable, written};
 ghost use Rattle.message.specs.Message.{line_for, message_bytes};
 ghost use Rattle.meaning.specs.Book.{known};
 ghost use Rattle.meaning.specs.Step.{send};
 ghost use Rattle.lent.specs.Words.{book_of, lawful};
-ghost use Rattle.lent.specs.Rows.{no_record};
 ghost use Rattle.promise.specs.Lent.{put_front};
-ghost use Rattle.send_step.specs.Parts.{start_at, record_bytes, with_head, with_records};
+ghost use Rattle.send_step.specs.Parts.{start_at, with_head, with_records};
 
-use book_log::{BODY, LABEL, NUMBER, ORIGIN};
-use lent::{known_of, log_row, logged_of, screen_of, screens_of};
+use book_log::{BODY, LABEL, NUMBER, ORIGIN, ROW};
+use lent::{known_of, log_rows, logged_of, screen_of, screens_of};
 use requests::{write_head, write_record};
 use stamp::{Parts, parts_at};
 use tally::unpack;
@@ -42,33 +40,14 @@ fn put_head(b: &[u64], m: Parts, out: &mut [u8])
 }
 
 // A row's record over the whole of a part, in a message of n screens and stamp m.
-fn put_row(row: &[u64], n: usize, m: Parts, part: &mut [u8])
-    requires row_len { (length row.now ≡ row_long) × (length part.old ≡ record_long) }
+fn put_row(row: &[u64; ROW], n: usize, m: Parts, part: &mut [u8])
+    requires part_len { length part.old ≡ record_long }
     requires t { T (writable (record_kind n (list_of m)) (line_for (record_at row.now))) }
     ensures { part.new ≡ written (record_kind n (list_of m)) (line_for (record_at row.now)) }
 {
     let label = parts_at(row, LABEL);
     let tap = unpack(row[BODY]);
     let _ = write_record(row[ORIGIN], row[NUMBER], label, tap, n, m, part);
-}
-
-// The log's i-th record at its place in the message.
-fn put_record(b: &[u64], i: usize, m: Parts, out: &mut [u8])
-    requires t { T (lawful b.now) }
-    requires m_value { list_of m ≡ known (book_of b.now) }
-    requires i_in_bounds { (i < length (book_of b.now).log) × (start_at (i + 1) ≤ length out.old) }
-    ensures { out.new
-        ≡ patch (start_at i) record_long out.old
-        (record_bytes (send (book_of b.now)) (get_or (book_of b.now).log i no_record)) }
-{
-    let row = log_row(b, i);
-    let a = HEAD_SIZE + i * RECORD_SIZE;
-    put_row(
-        &row,
-        screens_of(b) as usize,
-        m,
-        &mut out[a..a + RECORD_SIZE],
-    );
 }
 
 // The log's records behind the head.
@@ -80,8 +59,10 @@ fn put_records(b: &[u64], m: Parts, out: &mut [u8])
         ≡ with_records (send (book_of b.now)) (book_of b.now).log head_long
         (start_at (length (book_of b.now).log)) out.old }
 {
-    for i in 0..logged_of(b) {
-        put_record(b, i, m, out);
+    let screens = screens_of(b) as usize;
+    for (i, row) in log_rows(b).iter().enumerate() {
+        let at = HEAD_SIZE + i * RECORD_SIZE;
+        put_row(row, screens, m, &mut out[at..at + RECORD_SIZE]);
     }
 }
 

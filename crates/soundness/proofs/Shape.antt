@@ -14,7 +14,7 @@ use Rattle.ledger.specs.Message.{in_range}
 use Rattle.ledger.specs.LimitLaws.{range-me}
 use Rattle.lent.specs.WordsLaws.{screens-few, log-few, counted-few}
 use Rattle.book_log.specs.Region.{row_long, records_of, records_at}
-use Rattle.taps.specs.Region.{taps_in, taps_at}
+use Rattle.taps.specs.Region.{word_taps, taps_at}
 use Rattle.prompts.specs.Region.{standings_at}
 use Rattle.lent.specs.Lay.{number_word}
 use Rattle.lent.specs.Words.{Screen, Screens, Logged, Taps, Table, Value, Log, Counted, Prompts}
@@ -86,7 +86,7 @@ module _ (ws : List ℕ) where
   -- the pieces as they are lent
   pub pieces_read :
       all (piece_rules (get_or ws 0 0) (rows parts (get_or ws 1 0) (piece Table ws)) (piece Value ws)
-      (records_of (rows row_long (get_or ws 2 0) (piece Log ws))) (taps_in (take (get_or ws 3 0) (piece Counted ws)))
+      (records_of (rows row_long (get_or ws 2 0) (piece Log ws))) (word_taps (take (get_or ws 3 0) (piece Counted ws)))
       (standings_at (piece Prompts ws)))
       ≡ all (word_rules ws)
   unfolding word_rules records_at taps_at

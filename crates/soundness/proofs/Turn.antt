@@ -11,14 +11,14 @@ use Rattle.lists.specs.Tests.{every}
 use Rattle.stamp.specs.Stamp.{Stamp, stamp_fits}
 use Rattle.ledger.specs.Record.{Record}
 use Rattle.tally.specs.Tap.{tap_of}
-use Rattle.taps.specs.Region.{taps_in}
+use Rattle.taps.specs.Region.{word_taps}
 use Rattle.std.proofs.lemmas.List.{length-map}
 use Rattle.book_log.specs.Region.{record_at, records_of}
 
 pub every_rows : (p : Record → Bool) (rs : List (List ℕ)) → every p (records_of rs) ≡ every (λ r. p (record_at r)) rs
 every_rows p rs = list_all-map p record_at rs
 
-pub taps_long : (ws : List ℕ) → length (taps_in ws) ≡ length ws
+pub taps_long : (ws : List ℕ) → length (word_taps ws) ≡ length ws
 taps_long ws = length-map ws tap_of
 
 pub row_fits : (n i : ℕ) (table : List Stamp) → i < length table → T (every (stamp_fits n) table)

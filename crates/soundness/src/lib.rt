@@ -10,7 +10,7 @@ ghost use Rattle.tally.specs.Body.{body_fits};
 ghost use Rattle.ledger.specs.Log.{waiting_in};
 ghost use Rattle.ledger.specs.Record.{is_applied};
 ghost use Rattle.book_log.specs.Region.{record_at, records_of};
-ghost use Rattle.taps.specs.Region.{taps_in};
+ghost use Rattle.taps.specs.Region.{word_taps};
 ghost use Rattle.prompts.specs.Region.{prompt_words, standings_at};
 ghost use Rattle.meaning.specs.Book.{counted_in};
 ghost use Rattle.lent.specs.Words.{book_long, in_shape, lawful};
@@ -140,7 +140,7 @@ fn log_sound(
 #[tactic(auto, using(tally::proofs::BodyLaws::taps_tap), unfolding(meaning::specs::Book::counted_in))]
 fn row_counted(row: &[u64; ROW], ready: &[u64; PARTS], counted: &[u64]) -> bool
     ensures { result ≡ (not (is_applied ready.now (record_at row.now))
-        || counted_in (taps_in counted.now) (record_at row.now)) }
+        || counted_in (word_taps counted.now) (record_at row.now)) }
 {
     !is_applied(row, ready) || has(counted, row[BODY])
 }
@@ -148,7 +148,7 @@ fn row_counted(row: &[u64; ROW], ready: &[u64; PARTS], counted: &[u64]) -> bool
 // Whether each applied log record's tap is counted.
 fn rows_counted(log: &[[u64; ROW]], ready: &[u64; PARTS], counted: &[u64]) -> bool
     ensures { result ≡ every (λ row. not (is_applied ready.now (record_at row))
-        || counted_in (taps_in counted.now) (record_at row)) log.now }
+        || counted_in (word_taps counted.now) (record_at row)) log.now }
 {
     log.iter().all(|row| row_counted(row, ready, counted))
 }
@@ -164,7 +164,7 @@ fn few_enough(
     requires t { T (every (λ x. ltb x word) known.now) }
     requires few { (length counted.now < count_limit) × (length log.now < count_limit) }
     ensures { result
-        ≡ leb (length (taps_in counted.now) + length (waiting_in known.now ready.now (records_of log.now)))
+        ≡ leb (length (word_taps counted.now) + length (waiting_in known.now ready.now (records_of log.now)))
         (total known.now) }
 {
     let waiting = count_waiting(log, known, ready);
@@ -181,7 +181,7 @@ fn counted_sound(
 ) -> bool
     requires t { T (every (λ x. ltb x word) known.now) }
     requires few { (length counted.now < count_limit) × (length log.now < count_limit) }
-    ensures { result ≡ all (counted_rules known.now ready.now (records_of log.now) (taps_in counted.now)) }
+    ensures { result ≡ all (counted_rules known.now ready.now (records_of log.now) (word_taps counted.now)) }
 {
     rising_words(counted)
         && all_fit(counted)
@@ -197,7 +197,7 @@ fn regions_sound(p: &Pieces<'_>, known: &[u64; PARTS], ready: &[u64; PARTS]) -> 
         × (length p.now.counted.now < count_limit) × (length p.now.prompts.now ≡ prompt_words) }
     ensures { result
         ≡ all (region_rules (length p.now.table.now) known.now ready.now p.now.table.now p.now.value.now
-        (records_of p.now.log.now) (taps_in p.now.counted.now) (standings_at p.now.prompts.now)) }
+        (records_of p.now.log.now) (word_taps p.now.counted.now) (standings_at p.now.prompts.now)) }
 {
     let low = lowest(known, p.table);
     stamps_within(p.table, p.value, known)
@@ -213,7 +213,7 @@ fn pieces_sound(p: &Pieces<'_>, i: usize) -> bool
     requires few { (length p.now.log.now < count_limit) × (length p.now.counted.now < count_limit)
         × (length p.now.prompts.now ≡ prompt_words) }
     ensures { result ≡ all (piece_rules i p.now.table.now p.now.value.now (records_of p.now.log.now)
-        (taps_in p.now.counted.now) (standings_at p.now.prompts.now)) }
+        (word_taps p.now.counted.now) (standings_at p.now.prompts.now)) }
 {
     stamps_fit(p.table, p.value) && regions_sound(p, &p.table[i], &p.table[i])
 }

@@ -6,11 +6,11 @@ use Rattle.tally.specs.Tap.{fields, word_of, tap_of}
 use Rattle.tally.specs.declared.Tap.{Tap}
 
 -- the taps that some words hold, and that the first n words of a region hold
-abbrev pub taps_in : List ℕ → List Tap
-taps_in words = map tap_of words
+abbrev pub word_taps : List ℕ → List Tap
+word_taps words = map tap_of words
 
 unfoldable pub taps_at : ℕ → List ℕ → List Tap
-taps_at n r = taps_in (take n r)
+taps_at n r = word_taps (take n r)
 
 -- some taps over a region of so many words
 unfoldable pub tap_words : ℕ → List Tap → List ℕ

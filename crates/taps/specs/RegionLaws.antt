@@ -18,7 +18,7 @@ use Rattle.tally.specs.Tap.{FitsBits, fields, word_of, tap_of}
 use Rattle.tally.proofs.TapLaws.{mem-among}
 use Rattle.tally.proofs.WordLaws.{word_tap, tap-word, tap-equal, tap-order, fields-same}
 use Rattle.tally.specs.declared.Tap.{Tap}
-use Rattle.taps.specs.Region.{taps_in, taps_at, tap_words, inserted_at}
+use Rattle.taps.specs.Region.{word_taps, taps_at, tap_words, inserted_at}
 
 -- taps that fit their words
 abbrev pub AllFit : List Tap → Type 0
@@ -63,7 +63,7 @@ pub word-before : (v w : ℕ) → key_before (word_key v) (word_key w) ≡ ltb v
 unfolding word_key
 word-before v w = tap-order v w
 
-pub rising-taps : (l : List ℕ) → rising fields (taps_in l) ≡ rising word_key l
+pub rising-taps : (l : List ℕ) → rising fields (word_taps l) ≡ rising word_key l
 unfolding word_key
 rising-taps l = map-rising tap_of word_key fields (λ w. refl) l
 
@@ -71,7 +71,7 @@ eqb-turned : (v w : ℕ) → eqb v w ≡ eqb w v
 eqb-turned v w =
     same_test (eqb v w) (eqb w v) (λ t. eq→eqb w v (sym (eqb→eq v w t))) (λ t. eq→eqb v w (sym (eqb→eq w v t)))
 
-pub among-taps : (l : List ℕ) (w : ℕ) → among (taps_in l) (tap_of w) ≡ exists (λ v. eqb v w) l
+pub among-taps : (l : List ℕ) (w : ℕ) → among (word_taps l) (tap_of w) ≡ exists (λ v. eqb v w) l
 unfolding among
 among-taps [] w = refl
 among-taps (v ∷ l) w = ap₂ ◌||◌ (tap-equal w v ∙ eqb-turned w v) (among-taps l w)

@@ -1,18 +1,18 @@
 // The counted taps in their region of a book: one word for each, the first n in use, strictly rising.
 #![tactic(auto)]
 
-ghost use Rattle.std.specs.Prelude.{◌≡◌, not, ◌≤◌, ◌<◌, T, length};
+ghost use Rattle.std.specs.Prelude.{◌≡◌, not, ◌<◌, T, length};
 ghost use Rattle.lists.specs.Order.{rising};
 ghost use Rattle.lists.specs.Tests.{every};
 ghost use Rattle.tally.specs.Standing.{among};
 ghost use Rattle.tally.specs.Tap.{fields, tap_of, tap_fits};
-ghost use Rattle.taps.specs.Region.{taps_in, taps_at, inserted_at};
+ghost use Rattle.taps.specs.Region.{word_taps, taps_at, inserted_at};
 
 use tally::{fits, unpack};
 
 // Whether the tap of w is one of the words'.
 pub fn has(words: &[u64], w: u64) -> bool
-    ensures { result ≡ among (taps_in words.now) (tap_of w) }
+    ensures { result ≡ among (word_taps words.now) (tap_of w) }
 {
     words.contains(&w)
 }
@@ -31,14 +31,14 @@ pub fn insert_word(r: &mut [u64], n: usize, w: u64)
 
 // Whether the words are strictly rising: each above the one before it.
 pub fn rising_words(words: &[u64]) -> bool
-    ensures { result ≡ rising fields (taps_in words.now) }
+    ensures { result ≡ rising fields (word_taps words.now) }
 {
     words.is_sorted_by(|v, w| v < w)
 }
 
 // Whether each word's tap keeps the field rules.
 pub fn all_fit(words: &[u64]) -> bool
-    ensures { result ≡ every tap_fits (taps_in words.now) }
+    ensures { result ≡ every tap_fits (word_taps words.now) }
 {
     words.iter().map(|&w| unpack(w)).all(fits)
 }

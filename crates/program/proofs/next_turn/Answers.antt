@@ -3,7 +3,7 @@ use lib.Seq.{length-take-le}
 use mathlib.Core.Path.{sym, ◌∙◌}
 use Rattle.frames.specs.NextLaws.{next-whole}
 use Rattle.program.specs.Said.{bad}
-use Rattle.program.proofs.Owes.{one-says, last-owes, turn-owes}
+use Rattle.program.proofs.Owes.{last-owes, turn-owes}
 use Rattle.program.proofs.next_turn.Goals as goal
 
 pub slice_bounds-message_turn-end : goal.slice_bounds-message_turn-end
@@ -11,9 +11,6 @@ slice_bounds-message_turn-end c =
     let s = c.args in
     sym (length-take-le c.in-Whole.n s.read.now
     (next-whole s.read.now s.opened _ (sym c.next_in-frame.ensures ∙ c.in-Whole.is)).1)
-
-pub last_refusal-requires-clause-t : goal.last_refusal-requires-clause-t
-last_refusal-requires-clause-t c = one-says
 
 pub returns-in-More : goal.returns-in-More
 returns-in-More c =

@@ -4,7 +4,7 @@ use Rattle.lists.specs.Order.{same_key}
 use Rattle.limits.specs.Limits.{prompt_count}
 use Rattle.tally.specs.Standing.{afresh}
 use Rattle.tally.proofs.StandingLaws.{afresh-length}
-use Rattle.taps.specs.Region.{taps_in}
+use Rattle.taps.specs.Region.{word_taps}
 use Rattle.prompts.specs.Region.{standings_at, standing_words}
 use Rattle.prompts.specs.RegionLaws.{words_standings, length_standings, standings-fresh, same-counts}
 use Rattle.prompts.proofs.Turn.{pointwise-key}
@@ -23,7 +23,7 @@ tabulate-requires c =
 pub returns : goal.returns
 returns c =
     let r = c.args.r.now in
-    let ts = taps_in c.args.taps.now in
+    let ts = word_taps c.args.taps.now in
     let table = sym (words_standings _ c.tabulate.ensures.table_len_2)
     ∙ ap standing_words c.tabulate.ensures.table_after in
     c.eq.ensures ∙ pointwise-key r _ ∙ ap₂ same_key (sym (words_standings r c.requires.r_len)) table
