@@ -72,7 +72,8 @@ module _ (bytes : List ℕ) (n : ℕ) (m : Stamp) (h : Head bytes n m) (i : ℕ)
   never_refused r read = clash (readable (record_kind n m) (part_at i bytes)) readable-at
       (subst (λ (b : Bool). T (not b)) (sym (unread (record_kind n m) (part_at i bytes) r read).0) tt)
 
-  module _ (o q : ℕ) (p : Parts) (t : Tap) (read : Ok (said.Record o q p t) ≡ read_as (record_kind n m) (part_at i bytes))
+  module _ (o q : ℕ)
+      (p : Parts) (t : Tap) (read : Ok (said.Record o q p t) ≡ read_as (record_kind n m) (part_at i bytes))
     where
       line_at : line_of (record_kind n m) (part_at i bytes) ≡ 2 ∷ o ∷ q ∷ list_of p ++ fields t
       line_at =
