@@ -3,7 +3,7 @@ use Prim.Native.Nat.{ℕ, ◌+◌, ◌≤◌, ◌<◌}
 use native.Mathlib.Nat.{le_refl}
 use native.Mathlib.Omega.{arith}
 use mathlib.Core.Path.{◌≡◌, refl, sym, ap, subst, ◌∙◌}
-use mathlib.Core.Bool.{Bool, true, false, not, ◌&&◌, cond}
+use mathlib.Core.Bool.{Bool, true, false, not}
 use mathlib.Core.List.{List, [], ◌∷◌}
 use lib.Dec.{T}
 use lib.ListN.{length, get_or, take, drop, length-take, length-drop, drop_of_length-le}
@@ -16,7 +16,7 @@ use Rattle.tally.proofs.BodyLaws.{taps_tap}
 use Rattle.tally.specs.Standing.{among, count}
 use Rattle.tally.specs.Tap.{fields, tap_of}
 use Rattle.tally.specs.declared.Tap.{Tap}
-use Rattle.ledger.specs.Record.{Record, stamp_of, is_applied}
+use Rattle.ledger.specs.Record.{Record, stamp_of}
 use Rattle.ledger.specs.Log.{newly_applied, remaining}
 use Rattle.book_log.specs.Region.{record_at, row_long}
 use Rattle.taps.specs.RegionLaws.{length-insert}
@@ -102,32 +102,15 @@ module _ (ws : List ℕ) (h : Held ws) (r : Record) (o : length (stamp_of r) ≡
       ap (λ (ts : List Tap). count_taps ts (with_value (merge (stamp_of r) (book_of ws).value) (book_of ws)))
       (sym (taps_tap r.body))
 
--- one record of the log, by the two tests
+-- one record of the log, by the test
 module _ (before now : Stamp) (r : Record) (b : Book) where
-  pub not-now : is_applied now r ≡ false → (apply_one before now r b ≡ b) × (is_newly_applied before now r ≡ false)
-  unfolding apply_one is_newly_applied
-  not-now e = (rw e, rw e)
+  pub apply-off : is_newly_applied before now r ≡ false → apply_one before now r b ≡ b
+  unfolding apply_one
+  apply-off e = rw e
 
-  pub was-before : is_applied before r ≡ true → (apply_one before now r b ≡ b) × (is_newly_applied before now r ≡ false)
-  unfolding apply_one is_newly_applied
-  was-before e = go (is_applied now r)
-    where
-      go : (c : Bool) → (cond (c && not (is_applied before r)) (added r b) b ≡ b)
-          × ((c && not (is_applied before r)) ≡ false)
-      go true = (rw e, rw e)
-      go false = (refl, refl)
-
-  pub newly : is_applied now r ≡ true → is_applied before r ≡ false
-      → (apply_one before now r b ≡ added r b) × (is_newly_applied before now r ≡ true)
-  unfolding apply_one is_newly_applied
-  newly e f = (rw (e, f), rw (e, f))
-
--- the tests of a copy of the record
-pub newly_at : (before now : Stamp) (r copy : Record) (b : Book) → copy ≡ r → is_applied now copy ≡ true
-    → is_applied before copy ≡ false
-    → (apply_one before now r b ≡ added r b) × (is_newly_applied before now r ≡ true)
-newly_at before now r copy b same e f =
-    newly before now r b (ap (is_applied now) (sym same) ∙ e) (ap (is_applied before) (sym same) ∙ f)
+  pub apply-on : is_newly_applied before now r ≡ true → apply_one before now r b ≡ added r b
+  unfolding apply_one
+  apply-on e = rw e
 
 -- the log from its end to its start
 module _ (before now : Stamp) (ws : List ℕ) (h : Held ws) (y : Appliable before now (book_of ws)) where

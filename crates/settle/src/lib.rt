@@ -54,6 +54,14 @@ fn apply_record(b: &mut [u64], row: &[u64; ROW])
     count_tap(b, row[BODY]);
 }
 
+// Whether a row's record is applied under s and was not before.
+#[tactic(auto, unfolding(crate::specs::Moves::is_newly_applied))]
+fn is_newly_applied(row: &[u64; ROW], before: &[u64; PARTS], s: &[u64; PARTS]) -> bool
+    ensures { result ≡ is_newly_applied before.now s.now (record_at row.now) }
+{
+    is_applied(row, s) && !is_applied(row, before)
+}
+
 // Applies the log's i-th record if it is applied under s and was not before. Tells whether.
 fn apply_row(b: &mut [u64], i: usize, before: &[u64; PARTS], s: &[u64; PARTS]) -> bool
     requires held { Held b.old }
@@ -66,10 +74,7 @@ fn apply_row(b: &mut [u64], i: usize, before: &[u64; PARTS], s: &[u64; PARTS]) -
         (get_or (book_of b.old).log i no_record) }
 {
     let row = log_row(b, i);
-    if !is_applied(&row, s) {
-        return false;
-    }
-    if is_applied(&row, before) {
+    if !is_newly_applied(&row, before, s) {
         return false;
     }
     apply_record(b, &row);

@@ -1,5 +1,5 @@
 -- `arrivals::row_for` meets its contract. Assumes nothing.
-use mathlib.Core.Path.{sym, ◌∙◌}
+use mathlib.Core.Path.{◌∙◌}
 use Rattle.stamp.specs.Parts.{list_of}
 use Rattle.arrivals.proofs.Turn.{part_inside, never_refused, tap-bits, record-read}
 use Rattle.arrivals.proofs.row_for.Goals as goal

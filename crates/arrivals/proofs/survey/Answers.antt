@@ -1,7 +1,7 @@
 -- `arrivals::survey` meets its contract. Assumes nothing.
 use Prim.Native.Nat.{◌≤◌, ◌<◌}
 use native.Mathlib.Omega.{arith}
-use mathlib.Core.Path.{refl, sym, ap, ◌∙◌}
+use mathlib.Core.Path.{sym, ap, ◌∙◌}
 use mathlib.Core.Bool.{not}
 use Rattle.lists.specs.TestLaws.{bit, bit_le}
 use Rattle.book_log.specs.Region.{record_at}
@@ -9,9 +9,6 @@ use Rattle.wire.specs.Head.{count_in}
 use Rattle.book_log.proofs.Rows.{byte_bit}
 use Rattle.arrivals.proofs.Turn.{climb-more, new-more, climb-end, new-end}
 use Rattle.arrivals.proofs.survey.Goals as goal
-
-pub loop-i-init : goal.loop-i-init
-loop-i-init c = (omega arith, refl, omega arith)
 
 pub loop-i-preserved : goal.loop-i-preserved
 loop-i-preserved c =

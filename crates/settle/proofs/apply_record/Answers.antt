@@ -11,11 +11,7 @@ use Rattle.lent.specs.Words.{book_of, words_of}
 use Rattle.settle.specs.Moves.{count_taps}
 use Rattle.settle.specs.Ready.{Countable}
 use Rattle.settle.proofs.Turn.{stamp-whole, merged-shape, merged-countable, added_tap}
-use borrow.Author.Rules.{rules}
 use Rattle.settle.proofs.apply_record.Goals as goal
-
-pub merge_value-requires : goal.merge_value-requires
-merge_value-requires c = search rules
 
 pub count_tap-requires : goal.count_tap-requires
 count_tap-requires c =

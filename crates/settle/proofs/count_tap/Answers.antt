@@ -13,13 +13,6 @@ pub returns-then-is_counted : goal.returns-then-is_counted
 returns-then-is_counted c =
     count_had c.args.b.now c.requires.held c.args.w (sym c.is_counted.ensures ∙ c.if-is_counted.true)
 
-pub note_tap-requires : goal.note_tap-requires
-note_tap-requires c =
-    record {
-      held = c.requires.held;
-      counts_fit = c.requires.countable.counts;
-    }
-
 pub insert_tap-requires : goal.insert_tap-requires
 insert_tap-requires c =
     let unheld : (let s = c.args in

@@ -1,23 +1,12 @@
 -- `settle::settle_book` meets its contract. Assumes nothing.
-use mathlib.Core.Path.{sym, ap, subst, ◌∙◌}
+use mathlib.Core.Path.{ap, ◌∙◌}
 use lib.ListN.{length}
 use Rattle.stamp.specs.Stamp.{Stamp}
 use Rattle.ledger.specs.Log.{newly_applied}
 use Rattle.lent.specs.Words.{book_of, words_of}
 use Rattle.settle.specs.Moves.{apply_all}
-use Rattle.settle.specs.Ready.{Appliable}
 use Rattle.settle.proofs.Turn.{applied-held, applied-me, shed-settled}
 use Rattle.settle.proofs.settle_book.Goals as goal
-
-pub apply_log-n-requires : goal.apply_log-n-requires
-apply_log-n-requires c =
-    let w = c.args in
-    let here = sym c.ready_of-s.ensures.0 in
-    let ready = subst (λ (x : Stamp). Appliable w.before.now x (book_of w.b.now)) here c.requires.appliable in
-    record {
-      held = c.requires.held;
-      appliable = ready;
-    }
 
 pub drop_log-requires : goal.drop_log-requires
 drop_log-requires c =
