@@ -42,7 +42,7 @@ fn main(rt: HostRuntime) -> io::Result<()> {
                 ended = got < n - have;
                 have += got;
             }
-            Turn::Say { used: _, said } => {
+            Turn::Say { said, .. } => {
                 rt.write_all(&out[..said])?;
                 have = 0;
                 opened = true;

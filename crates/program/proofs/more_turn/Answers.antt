@@ -1,5 +1,5 @@
 -- `program::more_turn` meets its contract. Assumes nothing.
-use Rattle.program.proofs.Owes.{one-says, more-reads, more-stops, more_breaks}
+use Rattle.program.proofs.Owes.{more-reads, more-stops, more_breaks}
 use Rattle.std.proofs.Common.{rules, ◌≡◌, ◌&&◌, true, false, eqb, length}
 use Rattle.program.proofs.more_turn.Goals as goal
 use Rattle.program.proofs.more_turn.Goals.{else-opened-via-then-opened+else-is_empty, else-opened-via-else-opened}
@@ -14,9 +14,6 @@ returns-then-is_empty c =
     let s = c.args in
     let between : (s.opened && eqb (length s.read.now) 0) ≡ true = search rules in
     more-stops s.book.now s.read.now s.ended s.opened s.n s.out.now (search rules) between
-
-pub last_refusal-requires-clause-t : goal.last_refusal-requires-clause-t
-last_refusal-requires-clause-t c = one-says
 
 pub returns : goal.returns
 returns c =
