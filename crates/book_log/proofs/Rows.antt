@@ -2,8 +2,8 @@
 --     count_rows      how many pass a test
 --     position_rows   where the first stands that passes
 --     rising_rows     whether they rise, from what neighbours answer
-use Rattle.std.specs.Prelude.{ℕ, zero, suc, ◌+◌, ◌<◌, ◌≡◌, refl, Bool, true, false, not, ◌&&◌, cond, List, [], ◌∷◌, T, length, get_or}
-use Rattle.std.specs.Prelude.{count_by, position, filter}
+use Rattle.std.specs.Prelude.{ℕ, zero, suc, ◌+◌, ◌<◌, ◌≡◌, refl, Bool, true, false, not, ◌&&◌, cond, List, [], ◌∷◌, T}
+use Rattle.std.specs.Prelude.{length, get_or, count_by, position, filter}
 use Rattle.std.specs.List.{IsAllAdjacentAnswer, prefix_len}
 use Rattle.std.proofs.Common.{arith, sym, ap, ap₂, subst, ◌∙◌}
 use Rattle.std.proofs.lemmas.List.{length-map}

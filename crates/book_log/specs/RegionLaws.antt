@@ -1,6 +1,7 @@
 -- Laws of the log's words: records and rows give each other back. Assumes nothing.
 --     taken_chunks   the first rows of a list, as `as_chunks` lends them
-use Rattle.std.specs.Prelude.{ℕ, zero, suc, ◌+◌, ◌-◌, ◌*◌, ◌≤◌, ◌≡◌, refl, Bool, List, [], ◌∷◌, ◌++◌, map, T, eqb, length}
+use Rattle.std.specs.Prelude.{ℕ, zero, suc, ◌+◌, ◌-◌, ◌*◌, ◌≤◌, ◌≡◌, refl, Bool, List, [], ◌∷◌, ◌++◌, map, T}
+use Rattle.std.specs.Prelude.{eqb, length}
 use Rattle.std.specs.Prelude.{take, drop, get_or, replicate}
 use Rattle.std.specs.Simd.{first_chunks}
 use Rattle.std.proofs.Common.{arith, sym, ap, ap₂, ◌∙◌, append_assoc, length-append, take-append-drop}
@@ -20,7 +21,8 @@ pub taken_chunks : (w k n : ℕ) (l : List ℕ) → k ≤ n → take k (first_ch
 unfolding rows
 taken_chunks w zero n l h = refl
 taken_chunks w (suc k) zero l h = absurd (omega arith)
-taken_chunks w (suc k) (suc n) l h = ap (λ (rs : List (List ℕ)). take w l ∷ rs) (taken_chunks w k n (drop w l) (omega arith))
+taken_chunks w (suc k) (suc n) l h =
+    ap (λ (rs : List (List ℕ)). take w l ∷ rs) (taken_chunks w k n (drop w l) (omega arith))
 
 -- a record whose label has eight parts
 unfoldable pub whole_label : Record → Bool

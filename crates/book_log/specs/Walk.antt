@@ -3,8 +3,10 @@
 --     records-next   the row at the place, and those past it
 --     records-none   past the last row there are none
 --     row_lent       the i-th row, as it is lent
-use Rattle.std.specs.Prelude.{ℕ, suc, ◌+◌, ◌-◌, ◌*◌, ◌≤◌, ◌<◌, ◌≡◌, List, [], ◌∷◌, take, drop, get_or}
-use Rattle.std.proofs.Common.{arith, ap, drop-drop}
+--     record_in      the i-th record
+use Rattle.std.specs.Prelude.{ℕ, suc, ◌+◌, ◌-◌, ◌*◌, ◌≤◌, ◌<◌, ◌≡◌, refl, List, [], ◌∷◌, take, drop, get_or}
+use Rattle.std.proofs.Common.{arith, ap, ◌∙◌, drop-drop}
+use Rattle.std.proofs.Math.ListN.{get_or-map}
 use Rattle.std.proofs.Math.Nat.{sub-zero}
 use Rattle.lists.specs.RowLaws.{rows_at}
 use Rattle.lists.specs.Rows.{rows}
@@ -41,3 +43,9 @@ pub row_lent : (rs : List (List ℕ)) (n : ℕ) (r : List ℕ) (i : ℕ) → rs 
     → record_at (get_or rs i []) ≡ row_record r (i * row_long)
 unfolding row_record
 row_lent rs n r i e h = rw e (ap record_at (rows_at row_long n r i h))
+
+-- and the i-th record
+pub record_in : (n : ℕ) (r : List ℕ) (i : ℕ) → i < n
+    → get_or (records_at n r) i (record_at []) ≡ row_record r (i * row_long)
+unfolding records_at
+record_in n r i h = get_or-map record_at (rows row_long n r) i [] ∙ row_lent (rows row_long n r) n r i refl h

@@ -74,11 +74,11 @@ pub fn table_words(b: &[u64]) -> &[u64]
     part(b, TABLE, VALUE)
 }
 
-pub fn value_words(b: &[u64]) -> &[u64]
+pub fn value_words(b: &[u64]) -> &[u64; PARTS]
     requires { length b.now ≡ book_long }
-    ensures { (result.now ≡ piece Value b.now) × (length result.now ≡ size Value) }
+    ensures { result.now ≡ piece Value b.now }
 {
-    part(b, VALUE, LOG)
+    &rows_of::<PARTS>(part(b, VALUE, LOG), 1)[0]
 }
 
 pub fn log_words(b: &[u64]) -> &[u64]

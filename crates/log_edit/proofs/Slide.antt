@@ -1,92 +1,111 @@
 -- A row slid in: one turn and the end of the search for its place and of the shift, and what they come to. Assumes
 -- nothing.
-use Prim.Native.Nat.{ℕ, ◌+◌, ◌-◌, ◌*◌, ◌≤◌, ◌<◌}
+use Prim.Native.Nat.{ℕ, zero, suc, ◌+◌, ◌-◌, ◌*◌, ◌≤◌, ◌<◌}
 use native.Mathlib.Omega.{arith}
 use mathlib.Core.Path.{◌≡◌, sym, ap, subst, ◌∙◌}
-use mathlib.Core.Bool.{true, false}
-use mathlib.Core.List.Memᴰ
-use mathlib.Core.List.{List, [], ◌∷◌, ◌++◌, append_assoc}
+use mathlib.Core.Bool.{Bool, true, false, not}
+use mathlib.Core.List.{List, [], ◌∷◌, ◌++◌, map, append_assoc}
+use Rattle.std.proofs.Common.{◌⊎◌, inl, inr}
 use lib.Dec.{T}
 use Rattle.std.specs.List.{copy_within}
-use lib.ListN.{length, take, drop}
+use Rattle.std.specs.List.Sorted.{IsPartitionedBy}
+use Rattle.std.proofs.lemmas.List.{length-map}
+use lib.ListN.{get_or, get_or-map, length, take, drop}
 use lib.Seq.{drop-drop}
 use Rattle.lists.specs.Tests.{every}
-use Rattle.lists.specs.TestLaws.{◌∈◌, either, here, none_in, is_true, is_false, not-from, every-at}
+use Rattle.lists.specs.Scan.{le_or_lt}
+use Rattle.lists.specs.TestLaws.{get_or-every, get_or_in, clash, is_true, is_false, not-from, every-at}
 use Rattle.lists.specs.Order.{key_before, rising}
-use Rattle.lists.proofs.Sorted.{before_trans}
-use Rattle.lists.proofs.Neighbours.{rising-front}
+use Rattle.lists.proofs.Sorted.{before_trans, head-before, tail-rising}
 use Rattle.lists.specs.Part.{mid, patch, length-mid, length-patch, drop-patch}
 use Rattle.lists.specs.Rows.{rows}
 use Rattle.ledger.specs.Record.{Record, place}
 use Rattle.book_log.specs.Region.{row_long, record_at, records_at}
-use Rattle.book_log.specs.Walk.{records_from, row_record, records-next, records-none}
+use Rattle.book_log.specs.RegionLaws.{length-records}
+use Rattle.book_log.specs.Walk.{record_in, records_from, row_record}
 use Rattle.log_edit.specs.Merge.{before_of, after_of, Parted, Shifted, Slid}
-use Rattle.log_edit.specs.OrderLaws.{rising_across}
 use Rattle.log_edit.specs.MergeLaws.{parted}
-use Rattle.log_edit.specs.RowLaws.{records-split, records_snoc, records-same, take-before, words-after}
+use Rattle.log_edit.specs.RowLaws.{records-split, records-same, take-before, words-after}
 
--- of a rising list whose last does not stand after x, none does
-none_after :
-    (x a : Record) (rs : List Record) → T (rising place (rs ++ (a ∷ []))) → key_before (place x) (place a) ≡ false
-    → (z : Record) → z ∈ rs ++ (a ∷ []) → key_before (place x) (place z) ≡ false
-none_after x a rs o b z m =
-    either (Memᴰ.append_cases rs m)
-    (λ n. is_false (key_before (place x) (place z))
-    (not-from (key_before (place x) (place z))
-    (λ t. subst T b (before_trans (place x) (place z) (place a) t (rising_across place rs (a ∷ []) o n here)))))
-    (λ n. either (Memᴰ.cases_cons n) (λ e. ap (λ (w : Record). key_before (place x) (place w)) e ∙ b)
-    (λ k. none_in k))
+-- an element of a rising list stands before a later one
+rising_at : (rs : List Record) (d : Record) (k j : ℕ) → T (rising place rs) → k < j → j < length rs
+    → T (key_before (place (get_or rs k d)) (place (get_or rs j d)))
+rising_at [] d k j t l h = absurd (omega arith)
+rising_at (x ∷ rs) d k zero t l h = absurd (omega arith)
+rising_at (x ∷ rs) d zero (suc j) t l h = head-before place x rs t (get_or_in rs j d (omega arith))
+rising_at (x ∷ rs) d (suc k) (suc j) t l h = rising_at rs d k j (tail-rising place x rs t) (omega arith) (omega arith)
 
--- the search, from the back: of the first i rows, those from the n-th on stand after the row
-pub record Behind (row r : List ℕ) (i n : ℕ) : Type 0 where
-  pub within : n ≤ i
-  pub after : T (every (λ a. key_before (place (record_at row)) (place a)) (records_from i r n (n * row_long)))
+module _ (row r : List ℕ) (i : ℕ) where
+  abbrev pub after_row : Record → Bool
+  after_row a = key_before (place (record_at row)) (place a)
 
-pub behind-none : (row r : List ℕ) (i : ℕ) → Behind row r i i
-behind-none row r i = record { within = omega arith; after = rw (records-none i r i (i * row_long) (omega arith)) tt }
+  -- whether a row does not stand after the row
+  abbrev pub stays : List ℕ → Bool
+  stays c = not (after_row (record_at c))
 
-module _ {row r : List ℕ} {i n : ℕ} (b : Behind row r i n) where
-  pub behind_more : (k : ℕ) → n ≡ k + 1 → key_before (place (record_at row)) (place (row_record r (k * row_long)))
-      ≡ true
-      → Behind row r i k
-  behind_more k e t =
-      let m : n * row_long ≡ k * row_long + row_long = omega arith in
-      let h : k < i = omega (arith, b.within) in
-      record { within = omega arith; after = rw (records-next i r k (k * row_long) h, t) (rw (m, e) at b.after) }
-
-  parts : ((z : Record) → z ∈ records_at n r → key_before (place (record_at row)) (place z) ≡ false) → Parted i row r n
-  parts f =
-      let s = records-split i n r b.within in
-      let w = parted (record_at row) (records_at n r) (records_from i r n (n * row_long)) f passes in
-      record {
-        fewer = b.within;
-        before = sym (ap (before_of (record_at row)) s ∙ w.0);
-        after = sym (ap (after_of (record_at row)) s ∙ w.1);
-      }
+  -- the rows that do not are the first
+  pub partitioned : T (rising place (records_at i r)) → IsPartitionedBy stays (rows row_long i r)
+  unfolding records_at
+  partitioned t k j d l h e = go (le_or_lt j k)
     where
-      passes : (z : Record) → z ∈ records_from i r n (n * row_long) → key_before (place (record_at row)) (place z)
-          ≡ true
-      passes z m =
-          is_true (key_before (place (record_at row)) (place z))
-          (every-at (λ a. key_before (place (record_at row)) (place a)) (records_from i r n (n * row_long)) b.after
-          m)
+      cs : List (List ℕ)
+      cs = rows row_long i r
 
-  pub behind_stop : (k : ℕ) → n ≡ k + 1 → T (rising place (records_at i r))
-      → key_before (place (record_at row)) (place (row_record r (k * row_long))) ≡ false → Parted i row r n
-  behind_stop k e o t =
-      let a = row_record r (k * row_long) in
-      let s : records_at n r ≡ records_at k r ++ (a ∷ []) = rw e (records_snoc k r) in
-      let o' = rising-front place (records_at n r) (records_from i r n (n * row_long))
-      (subst (λ (l : List Record). T (rising place l)) (records-split i n r b.within) o) in
-      parts (λ z m. none_after (record_at row) a (records_at k r)
-      (subst (λ (l : List Record). T (rising place l)) s o') t
-      z (subst (λ (l : List Record). z ∈ l) s m))
+      here : (m : ℕ) → record_at (get_or cs m d) ≡ get_or (map record_at cs) m (record_at d)
+      here m = sym (get_or-map record_at cs m d)
 
-  pub behind-all : n ≡ 0 → Parted i row r 0
-  unfolding records_at rows
-  behind-all e =
-      subst (Parted i row r) e
-      (parts (λ z m. none_in (subst (λ (l : List Record). z ∈ l) (ap (λ (k : ℕ). records_at k r) e) m)))
+      order : k < j → T (key_before (place (record_at (get_or cs k d))) (place (record_at (get_or cs j d))))
+      order g =
+          let stand = rising_at (map record_at cs) (record_at d) k j t g (simp length-map h) in
+          let first = get_or (map record_at cs) k (record_at d) in
+          subst (λ (x : Record). T (key_before (place x) (place (record_at (get_or cs j d))))) (sym (here k))
+          (subst (λ (x : Record). T (key_before (place first) (place x))) (sym (here j)) stand)
+
+      go : (j ≤ k) ⊎ (k < j) → stays (get_or cs k d) ≡ true
+      go (inl g) =
+          let same : j ≡ k = omega arith in
+          subst (λ (m : ℕ). stays (get_or cs m d) ≡ true) same e
+      go (inr g) =
+          let a = record_at (get_or cs k d) in
+          let b = record_at (get_or cs j d) in
+          is_true (stays (get_or cs k d))
+          (not-from (after_row a)
+          (λ u. clash (after_row b) (before_trans (place (record_at row)) (place a) (place b) u (order g))
+          (subst T (sym e) tt)))
+
+  module _
+      (n : ℕ) (within : n ≤ i) (low : (k : ℕ) → k < n → after_row (row_record r (k * row_long)) ≡ false)
+      (high : (k : ℕ) → n ≤ k → k < i → after_row (row_record r (k * row_long)) ≡ true) where
+    before : T (every (λ a. not (after_row a)) (records_at n r))
+    before =
+        get_or-every (λ a. not (after_row a)) (records_at n r) (record_at [])
+        (λ k h. let l : k < n = omega (arith, length-records n r) in
+        rw (record_in n r k l, low k l) tt)
+
+    farther : (k : ℕ) → row_record (drop (n * row_long) r) (k * row_long) ≡ row_record r ((n + k) * row_long)
+    unfolding row_record
+    farther k =
+        let e : n * row_long + k * row_long ≡ (n + k) * row_long = omega arith in
+        rw (drop-drop (k * row_long) (n * row_long) r, e)
+
+    behind : T (every after_row (records_from i r n (n * row_long)))
+    unfolding records_from
+    behind =
+        get_or-every after_row (records_at (i - n) (drop (n * row_long) r)) (record_at [])
+        (λ k h. let l : k < i - n = omega (arith, length-records (i - n) (drop (n * row_long) r)) in
+        rw (record_in (i - n) (drop (n * row_long) r) k l, farther k, high (n + k) (omega arith) (omega arith)) tt)
+
+    pub parted_at : Parted i row r n
+    parted_at =
+        let s = records-split i n r within in
+        let w = parted (record_at row) (records_at n r) (records_from i r n (n * row_long))
+        (λ z m. is_false (after_row z) (every-at (λ a. not (after_row a)) (records_at n r) before m))
+        (λ z m. is_true (after_row z) (every-at after_row (records_from i r n (n * row_long)) behind m)) in
+        record {
+          fewer = within;
+          before = sym (ap (before_of (record_at row)) s ∙ w.0);
+          after = sym (ap (after_of (record_at row)) s ∙ w.1);
+        }
 
 -- words copied to another place of their slice are put there as a part, and the shift is one such copy
 pub copied : (r : List ℕ) (i j d : ℕ) → copy_within r i j d ≡ patch d (j - i) r (mid i (j - i) r)

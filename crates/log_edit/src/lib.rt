@@ -1,4 +1,5 @@
 // Rows of the log moved in place: new records merged in from the back, records that may go dropped from the front.
+// Kept: rows are written as words at their places; of a slice lent as `&mut [[u64; ROW]]` no clause says how it ends.
 #![tactic(auto)]
 
 ghost use Rattle.std.specs.Prelude.{◌≡◌, [], ◌∷◌, ◌++◌, ◌+◌, ◌-◌, ◌*◌, ◌≤◌, T, length, take, drop, replicate};
@@ -19,13 +20,7 @@ fn staying(r: &[u64], i: usize, row: &[u64; ROW]) -> usize
     requires t { T (rising place (records_at i r.now)) }
     ensures { Parted i row.now r.now result }
 {
-    let rows = rows_of::<ROW>(r, i);
-    for n in (0..i).rev() {
-        if !stands_before(row, &rows[n]) {
-            return n + 1;
-        }
-    }
-    0
+    rows_of::<ROW>(r, i).partition_point(|other| !stands_before(row, other))
 }
 
 // The words from a place up to another moved up.

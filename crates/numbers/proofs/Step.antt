@@ -11,6 +11,7 @@ use lib.ListN.{length, drop, get_or, set}
 use lib.Seq.{get_or-set_same, drop-set-lt, drop-cons, lt-length-set}
 use borrow.Author.Tests.{ltb-true, ltb-false, lt-ltb, le-ltb}
 use Rattle.lists.specs.Scan.{rest}
+use Rattle.lists.specs.Part.{length-mid}
 use Rattle.numbers.specs.Number.{number_from, bytes_of}
 
 pub number_more : (s : List ℕ) (i n : ℕ) → i < length s
@@ -26,11 +27,11 @@ number_fits i n x h l k =
     let e : i + 1 ≤ 8 = omega arith in
     omega (arith, number_grows i n x h l, pow-le-pow_right {n = 256} (lit< tt) e)
 
-pub put-more : (s : List ℕ) (i m : ℕ) → 0 < i → i ≤ length s
+pub put_more : (s : List ℕ) (i m : ℕ) → 0 < i → i ≤ length s
     → bytes_of i m ++ drop i s ≡ bytes_of (i - 1) (m / 256) ++ drop (i - 1) (set s (i - 1) (m % 256))
 unfolding bytes_of
-put-more s zero m h l = absurd (omega arith)
-put-more s (suc i) m h l =
+put_more s zero m h l = absurd (omega arith)
+put_more s (suc i) m h l =
     let e : suc i - 1 ≡ i = omega arith in
     rw (
       e,
@@ -47,8 +48,13 @@ same_test a b c d f g = on (ltb a b) refl
     on true e = sym (lt-ltb c d (f (ltb-true a b e)))
     on false e = sym (le-ltb c d (g (ltb-false a b e)))
 
-pub width-more : (m i w : ℕ) → i < w → ltb m (256 ^ (w - i)) ≡ ltb (m / 256) (256 ^ (w - (i + 1)))
-width-more m i w h =
+pub width_more : (m i w : ℕ) → i < w → ltb m (256 ^ (w - i)) ≡ ltb (m / 256) (256 ^ (w - (i + 1)))
+width_more m i w h =
     let k = w - (i + 1) in
     let e : w - i ≡ suc k = omega arith in
     rw (e, pow-suc 256 k) (same_test m (256 ^ k * 256) (m / 256) (256 ^ k) (λ l. omega arith) (λ l. omega arith))
+
+-- what `number_of` goes by, and what a part at a place goes by
+pub ruleset bytes_read = (number_more, number_grows, number_fits)
+
+pub ruleset part_at = (length-mid)

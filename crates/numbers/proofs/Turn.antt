@@ -74,6 +74,11 @@ pub put-end : (ws v out : List ℕ) (i at : ℕ) → length ws ≤ i
 unfolding put_fields
 put-end ws v out i at h = rw (drop_of_length-le ws h) (take-append-drop at out)
 
+-- what the loops go by
+pub ruleset fields_read = (total-rest, narrow, read_more, read-end)
+
+pub ruleset fields_put = (total-rest, put-more, put-end)
+
 -- each number fits beside its width
 pub fit_zip : (ws v : List ℕ) → length ws ≡ length v
     → list_all (λ (p : ℕ × ℕ). ltb p.1 (256 ^ p.0)) (zip ws v) ≡ fields_fit ws v

@@ -13,6 +13,7 @@ ghost use Rattle.numbers.specs.Fields.{read_fields, fields_fit, put_fields};
 const BASE: u64 = 256;
 
 // The number that the whole slice holds.
+#[tactic(auto, using(crate::proofs::Step::bytes_read), unfolding(crate::specs::Number::number_from))]
 fn number_of(s: &[u8]) -> u64
     requires { length s.now ≤ 8 }
     ensures { (result ≡ number_of s.now) × (result < 256 ^ length s.now) }
@@ -25,6 +26,7 @@ fn number_of(s: &[u8]) -> u64
 }
 
 // The number of w bytes at a place.
+#[tactic(auto, using(crate::proofs::Step::part_at), unfolding(lists::specs::Part::mid))]
 pub fn number_at(s: &[u8], at: usize, w: usize) -> u64
     requires { (at + w ≤ length s.now) × (w ≤ 8) }
     ensures { (result ≡ number_of (mid at w s.now)) × (result < 256 ^ w) }
@@ -33,6 +35,7 @@ pub fn number_at(s: &[u8], at: usize, w: usize) -> u64
 }
 
 // The last bytes of n over the whole slice.
+#[tactic(auto, using(crate::proofs::Step::put_more), unfolding(crate::specs::Number::bytes_of))]
 fn put_number(s: &mut [u8], n: u64)
     ensures { s.new ≡ bytes_of (length s.old) n }
 {
@@ -44,6 +47,7 @@ fn put_number(s: &mut [u8], n: u64)
 }
 
 // The last w bytes of n at a place; what stands before and after stays.
+#[tactic(auto, using(crate::proofs::Step::part_at), unfolding(lists::specs::Part::mid, lists::specs::Part::patch))]
 pub fn put_number_at(s: &mut [u8], at: usize, w: usize, n: u64)
     requires { at + w ≤ length s.old }
     ensures { s.new ≡ patch at w s.old (bytes_of w n) }
@@ -52,6 +56,7 @@ pub fn put_number_at(s: &mut [u8], at: usize, w: usize, n: u64)
 }
 
 // Whether w bytes hold n: so many divisions leave nothing.
+#[tactic(auto, using(crate::proofs::Step::width_more))]
 pub fn fits_width(n: u64, w: usize) -> bool
     ensures { result ≡ ltb n (256 ^ w) }
 {
@@ -63,6 +68,7 @@ pub fn fits_width(n: u64, w: usize) -> bool
 }
 
 // The numbers that the bytes hold, over the whole of v.
+#[tactic(auto, using(crate::proofs::Turn::fields_read))]
 pub fn read_fields(v: &mut [u64], ws: &[usize], bytes: &[u8])
     requires v_len { length v.old ≡ length ws.now }
     requires ws_in_bounds { total ws.now ≤ length bytes.now }
@@ -77,6 +83,7 @@ pub fn read_fields(v: &mut [u64], ws: &[usize], bytes: &[u8])
 }
 
 // The numbers of v at the front of out; what stands past them stays.
+#[tactic(auto, using(crate::proofs::Turn::fields_put))]
 pub fn put_fields(out: &mut [u8], ws: &[usize], v: &[u64])
     requires v_len { length v.now ≡ length ws.now }
     requires ws_in_bounds { total ws.now ≤ length out.old }

@@ -3,17 +3,15 @@
 --     never-reads   nothing more is asked for
 --     say-turn      what is said is compared, and then what is said to what is left
 --     last_turn_lem, stop-turn   the last turn says all that is still to be said
-use Rattle.std.specs.Prelude.{ℕ, ◌+◌, ◌-◌, ◌≡◌, Bool, true, List, [], ◌++◌, T, length, take, drop}
-use Rattle.std.proofs.Common.{arith, sym, ap, ap₂, subst, ◌∙◌, append-nil, take_at, drop-drop}
+use Rattle.std.specs.Prelude.{ℕ, ◌+◌, ◌-◌, ◌≡◌, Ok, Bool, true, List, [], ◌++◌, T, length, take, drop}
+use Rattle.std.proofs.Common.{sym, ap, ap₂, subst, ◌∙◌, append-nil, take_at, drop-drop}
 use Rattle.program.specs.Said.{said_in}
 use Rattle.program.specs.Turn.{Turned, turn_on, Turns}
 use Rattle.program.proofs.TurnLaws.{turn-told}
 use Rattle.program.specs.declared.Turn.{Turn}
 use Rattle.program.specs.declared.Turn.TheVariants.{Read, Say, Last, Stop}
-use Rattle.vectors.specs.Compare.{compared_at}
 use Rattle.vectors.specs.CompareLaws.{to_end, then_at, compared-none, compared_append}
-use Rattle.vectors.specs.declared.compare.Outcome.{Outcome}
-use Rattle.vectors.specs.declared.compare.Outcome.TheVariants.{Same}
+use Rattle.vectors.specs.Compare.{Outcome, compared_at}
 
 -- one turn: what is left of the input is lent from `at` on, and what is said so far ends at `place`
 module _ (words input out expected : List ℕ) (at place : ℕ) (opened : Bool) (t : Turn) (after bytes : List ℕ)
@@ -29,16 +27,14 @@ module _ (words input out expected : List ℕ) (at place : ℕ) (opened : Bool) 
   lent-all = append-nil lent ∙ to_end at input
 
   -- what is said stands at the output's front
-  front : (k : ℕ) → k ≡ length turned.says → turned.says ≡ take (k - 0) bytes
-  front k e =
-      let z : k - 0 ≡ k = omega arith in
-      sym (ap₂ take z p.writes ∙ take_at turned.says (drop (length turned.says) out) k (sym e))
+  front : (k : ℕ) → k ≡ length turned.says → turned.says ≡ take k bytes
+  front k e = sym (ap (take k) p.writes ∙ take_at turned.says (drop (length turned.says) out) k (sym e))
 
   pub never-reads : (n : ℕ) → t ≡ Read n → ⊥
   never-reads n e = subst T (turn-told words lent true opened t after out bytes p (Read n) e).0 tt
 
   pub say-turn :
-      (used said : ℕ) → t ≡ Say used said → (o : Outcome) → o ≡ compared_at place (take (said - 0) bytes) expected
+      (used said : ℕ) → t ≡ Say used said → (o : Outcome) → o ≡ compared_at place (take said bytes) expected
       → compared_at place (said_in opened words (drop at input)) expected
       ≡ then_at o (said_in true after (drop (at + used) input)) expected
   say-turn used said e o q =
@@ -55,13 +51,13 @@ module _ (words input out expected : List ℕ) (at place : ℕ) (opened : Bool) 
 
   pub last_turn_lem : (said : ℕ) → t ≡ Last said
       → compared_at place (said_in opened words (drop at input)) expected
-      ≡ compared_at place (take (said - 0) bytes) expected
+      ≡ compared_at place (take said bytes) expected
   last_turn_lem said e =
       let m = turn-told words lent true opened t after out bytes p (Last said) e in
       ap (λ (l : List ℕ). compared_at place (said_in opened words l) expected) (sym lent-all)
       ∙ ap (λ (l : List ℕ). compared_at place l expected) (m.0 ∙ front said m.1)
 
-  pub stop-turn : t ≡ Stop → compared_at place (said_in opened words (drop at input)) expected ≡ Same place
+  pub stop-turn : t ≡ Stop → compared_at place (said_in opened words (drop at input)) expected ≡ Ok place
   stop-turn e =
       ap (λ (l : List ℕ). compared_at place (said_in opened words l) expected) (sym lent-all)
       ∙ ap (λ (l : List ℕ). compared_at place l expected) (turn-told words lent true opened t after out bytes p Stop e)

@@ -10,19 +10,19 @@ ghost use Rattle.vectors.specs.File.{Inside, file_room};
 use play::play;
 use std::io::Read;
 use std::{env, fs, io};
-use vectors::compare::Outcome;
-use vectors::file::{FILE_ROOM, NextVector, Part, entry_at};
+use vectors::compare::Differs;
+use vectors::file::{Cut, FILE_ROOM, Vector, entry_at};
 
 // A vector's line; whether it agrees.
-fn print_line(rt: &impl Print, name: &[u8], outcome: Outcome) -> io::Result<bool> {
+fn print_line(rt: &impl Print, name: &[u8], outcome: Result<usize, Differs>) -> io::Result<bool> {
     rt.write_all(name)?;
     match outcome {
-        Outcome::Same(_) => {
+        Ok(_) => {
             println!(rt; " ok")?;
             Ok(true)
         }
-        Outcome::Differs(place) => {
-            println!(rt; " differs at byte {place}")?;
+        Err(Differs { at }) => {
+            println!(rt; " differs at byte {at}")?;
             Ok(false)
         }
     }
@@ -37,17 +37,16 @@ fn print_cut(rt: &impl Print) -> io::Result<()> {
 }
 
 // Runs one vector and writes its line; whether it agrees.
-fn try_vector(
-    rt: &impl Print,
-    file: &[u8],
-    name: Part,
-    input: Part,
-    output: Part,
-) -> io::Result<bool>
-    requires inside { Inside name file.now }
-    requires inside_2 { Inside input file.now }
-    requires inside_3 { Inside output file.now }
+fn try_vector(rt: &impl Print, file: &[u8], vector: Vector) -> io::Result<bool>
+    requires inside { Inside vector.name file.now }
+    requires inside_2 { Inside vector.input file.now }
+    requires inside_3 { Inside vector.output file.now }
 {
+    let Vector {
+        name,
+        input,
+        output,
+    } = vector;
     let outcome = play(
         &file[input.start..input.end],
         &file[output.start..output.end],
@@ -60,19 +59,16 @@ fn try_all(rt: &impl Print, file: &[u8]) -> io::Result<()> {
     let mut at = 0;
     let mut agreed: u64 = 0;
     let mut total: u64 = 0;
+    // Kept: a loop, since each vector says where the next stands.
     loop {
         match entry_at(file, at) {
-            NextVector::Vector {
-                name,
-                input,
-                output,
-            } => {
-                agreed += u64::from(try_vector(rt, file, name, input, output)?);
+            Ok(Some(vector)) => {
+                agreed += u64::from(try_vector(rt, file, vector)?);
                 total += 1;
-                at = output.end;
+                at = vector.output.end;
             }
-            NextVector::End => return print_total(rt, agreed, total),
-            NextVector::Cut => return print_cut(rt),
+            Ok(None) => return print_total(rt, agreed, total),
+            Err(Cut) => return print_cut(rt),
         }
     }
 }

@@ -2,12 +2,11 @@
 use Prim.Native.Nat.{ℕ, ◌*◌, ◌≤◌, ◌<◌}
 use native.Mathlib.Omega.{arith}
 use mathlib.Core.Path.{◌≡◌, refl, sym, subst, ◌∙◌}
-use mathlib.Core.List.{List, []}
+use mathlib.Core.List.{List}
 use mathlib.Core.Bool.{true, ◌&&◌}
 use lib.Dec.{T, leb, leb→le}
 use Rattle.lists.specs.TestLaws.{given}
-use lib.ListN.{length, get_or, take}
-use lib.Seq.{take_all}
+use lib.ListN.{get_or, take}
 use Rattle.lists.specs.Rows.{rows}
 use Rattle.lists.specs.Tests.{all}
 use Rattle.limits.specs.Limits.{parts, most, log_room, book_room}
@@ -17,9 +16,9 @@ use Rattle.lent.specs.WordsLaws.{screens-few, log-few, counted-few}
 use Rattle.book_log.specs.Region.{row_long, records_of, records_at}
 use Rattle.taps.specs.Region.{word_taps, taps_at}
 use Rattle.prompts.specs.Region.{standings_at}
-use Rattle.lent.specs.Lay.{number_word, piece-long}
+use Rattle.lent.specs.Lay.{number_word}
 use Rattle.lent.specs.Words.{Screen, Screens, Logged, Taps, Table, Value, Log, Counted, Prompts}
-use Rattle.lent.specs.Words.{book_long, size, from, piece, number_in, zero_from, in_shape}
+use Rattle.lent.specs.Words.{size, from, piece, number_in, zero_from, in_shape}
 use Rattle.soundness.specs.Clauses.{piece_rules}
 use Rattle.soundness.specs.SoundLaws.{Numbers, number_rules, zero_rules, word_rules}
 
@@ -40,12 +39,16 @@ module _ (ws : List ℕ) where
   unfolding size from
   taps = number_word ws Taps refl
 
-  pub numbers_read : all (number_rules ws) ≡ (leb (get_or ws 1 0) most && (leb (get_or ws 2 0) log_room && (leb (get_or ws 3 0) book_room && true)))
+  pub numbers_read :
+      all (number_rules ws)
+      ≡ (leb (get_or ws 1 0) most && (leb (get_or ws 2 0) log_room && (leb (get_or ws 3 0) book_room && true)))
   numbers_read = rw (screens, logged, taps)
 
   pub zeros_read :
-      all (zero_rules ws) ≡ (zero_from (get_or ws 1 0 * parts) (piece Table ws)
-      && (zero_from (get_or ws 2 0 * row_long) (piece Log ws) && (zero_from (get_or ws 3 0) (piece Counted ws) && true)))
+      all (zero_rules ws)
+      ≡ (zero_from (get_or ws 1 0 * parts) (piece Table ws)
+      && (zero_from (get_or ws 2 0 * row_long) (piece Log ws)
+      && (zero_from (get_or ws 3 0) (piece Counted ws) && true)))
   zeros_read = rw (screens, logged, taps)
 
   pub range_read : in_range (number_in Screen ws) (number_in Screens ws) ≡ in_range (get_or ws 0 0) (get_or ws 1 0)
@@ -80,15 +83,11 @@ module _ (ws : List ℕ) where
         taps = counted-few ws shape;
       }
 
-  value_row : length ws ≡ book_long → get_or (rows parts 1 (piece Value ws)) 0 [] ≡ piece Value ws
-  unfolding rows size
-  value_row long = take_all parts (piece Value ws) (omega (arith, piece-long ws long Value))
-
   -- the pieces as they are lent
-  pub pieces_read : length ws ≡ book_long
-      → all (piece_rules (get_or ws 0 0) (rows parts (get_or ws 1 0) (piece Table ws))
-      (get_or (rows parts 1 (piece Value ws)) 0 []) (records_of (rows row_long (get_or ws 2 0) (piece Log ws)))
-      (word_taps (take (get_or ws 3 0) (piece Counted ws))) (standings_at (piece Prompts ws)))
+  pub pieces_read :
+      all (piece_rules (get_or ws 0 0) (rows parts (get_or ws 1 0) (piece Table ws)) (piece Value ws)
+      (records_of (rows row_long (get_or ws 2 0) (piece Log ws))) (word_taps (take (get_or ws 3 0) (piece Counted ws)))
+      (standings_at (piece Prompts ws)))
       ≡ all (word_rules ws)
   unfolding word_rules records_at taps_at
-  pieces_read long = rw (screen, screens, logged, taps, value_row long)
+  pieces_read = rw (screen, screens, logged, taps)

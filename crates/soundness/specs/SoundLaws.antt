@@ -244,5 +244,5 @@ module _ (ws : List ℕ) where
   unfolding in_shape
   shape_is e =
       rw (eq-eqb (length ws) book_long e)
-      (three_first (leb (number_in Screens ws) most) (leb (number_in Logged ws) log_room) (leb (number_in Taps ws) book_room)
-      (all (zero_rules ws)))
+      (three_first (leb (number_in Screens ws) most) (leb (number_in Logged ws) log_room)
+      (leb (number_in Taps ws) book_room) (all (zero_rules ws)))

@@ -31,8 +31,8 @@ use stamp::{at_most, fits, sum, zero_from};
 use tally::unpack;
 use taps::{all_fit, has, rising_words};
 
-// What stands behind the numbers of a slice: the table's rows, the value stamp, the log's rows, the counted taps and the
-// prompts.
+// What stands behind the numbers of a slice: the table's rows, the value stamp, the log's rows, the counted taps and
+// the prompts.
 #[derive(Clone, Copy)]
 struct Pieces<'a> {
     table: &'a [[u64; PARTS]],
@@ -227,7 +227,7 @@ fn words_sound(b: &[u64]) -> bool
     let taps = b[TAPS] as usize;
     let p = Pieces {
         table: rows_of::<PARTS>(table_words(b), b[SCREENS] as usize),
-        value: &rows_of::<PARTS>(value_words(b), 1)[0],
+        value: value_words(b),
         log: rows_of::<ROW>(log_words(b), b[LOGGED] as usize),
         counted: &counted_words(b)[..taps],
         prompts: prompt_words(b),

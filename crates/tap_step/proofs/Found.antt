@@ -46,10 +46,13 @@ module _ (w : ℕ) where
       (λ t. eq→eqb w r.body (sym (eqb→eq r.body w t)))
 
   pub tap-gone : (rs : List Record) → position (λ r. eqb r.body w) rs ≡ None → exists (holds (tap_of w)) rs ≡ false
-  tap-gone rs e = (λ i. exists (λ r. holds-body r i) rs) ∙ none_passes (λ r. eqb r.body w) rs (past (λ r. eqb r.body w) rs e)
+  tap-gone rs e =
+      (λ i. exists (λ r. holds-body r i) rs)
+      ∙ none_passes (λ r. eqb r.body w) rs (past (λ r. eqb r.body w) rs e)
 
   module _ (rs : List Record) (i : ℕ) (d : Record) (e : position (λ r. eqb r.body w) rs ≡ Some i) where
-    here : (i < length rs) × (eqb (get_or rs i d).body w ≡ true) × ((k : ℕ) → k < i → eqb (get_or rs k d).body w ≡ false)
+    here : (i < length rs) × (eqb (get_or rs i d).body w ≡ true)
+        × ((k : ℕ) → k < i → eqb (get_or rs k d).body w ≡ false)
     here = position-Some (λ r. eqb r.body w) rs i d e
 
     pub tap-within : i < length rs

@@ -22,9 +22,11 @@ loop-i-preserved c =
     let b = c.from-new.ensures ∙ byte_bit _ in (
       omega (arith, b, bit_le (not c.is_known.result)),
       rw c.climb_row.ensures
-          (c.loop-i.invariant.1 ∙ climb-more s.msg.now c.requires.head.formed i within (record_at c.row_for-row.result) e
+          (c.loop-i.invariant.1 ∙ climb-more s.msg.now c.requires.head.formed i within
+          (record_at c.row_for-row.result) e
           c.loop-i.reached),
-      c.loop-i.invariant.2 ∙ new-more s.msg.now c.requires.head.formed i within (record_at c.row_for-row.result) e s.known.now
+      c.loop-i.invariant.2 ∙ new-more s.msg.now c.requires.head.formed i within
+          (record_at c.row_for-row.result) e s.known.now
           c.loop-i.new c.from-new.result (b ∙ ap (λ k. bit (not k)) c.is_known.ensures),
     )
 

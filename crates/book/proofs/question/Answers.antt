@@ -8,9 +8,9 @@ use borrow.Author.Tests.{not-true, not-false}
 use Rattle.wire.specs.Kinds.{question_kind, stamp_at}
 use Rattle.wire.specs.Read.{line_of, readable, read_as}
 use Rattle.wire.proofs.ReadLaws.{unread}
-use Rattle.wire.specs.Says.{question_says}
-use Rattle.wire.specs.declared.Question.{Question}
-use Rattle.std.specs.Prelude.{Ok, Err}
+use Rattle.wire.specs.Says.{Said}
+use Rattle.wire.specs.declared.Refusal.{Refusal}
+use Rattle.std.specs.Prelude.{Result}
 use mathlib.Core.List.{List}
 use Rattle.meaning.specs.Step.{ask}
 use Rattle.lent.specs.SoundWords.{lawful-held}
@@ -32,5 +32,42 @@ screens_of-requires c =
     sym c.sound.ensures ∙ not-false _ c.if-not-sound.false-raw in
     lawful-held c.args.b.now (subst T (sym (sound-now)) tt)
 
-pub returns-in_Err : goal.returns-in_Err
-returns-in_Err c = ?
+-- the question that was read
+heard : (ws bytes : List ℕ) (n : ℕ) (r : Result Said Refusal) → r ≡ read_as (question_kind n) bytes
+    → n ≡ (book_of ws).screens
+    → r ≡ read_as (question_kind (book_of ws).screens) bytes
+heard ws bytes n r e f = e ∙ ap (λ (k : ℕ). read_as (question_kind k) bytes) f
+
+pub ask_book-requires : goal.ask_book-requires
+ask_book-requires c =
+    let sound-now : lawful c.args.b.now ≡ true =
+    sym c.sound.ensures ∙ not-false _ c.if-not-sound.false-raw in
+    let s = c.args in
+    let f = question-fits s.b.now s.msg.now _ (sound-now)
+    (heard s.b.now s.msg.now _ _ c.in-Ok.ensures c.screens_of.ensures.0) in
+    record {
+      sound = subst T (sym (sound-now)) tt;
+      prompt_fits = f.0;
+      label_fits = f.1;
+    }
+
+pub returns-in-Ok : goal.returns-in-Ok
+returns-in-Ok c =
+    let sound-now : lawful c.args.b.now ≡ true =
+    sym c.sound.ensures ∙ not-false _ c.if-not-sound.false-raw in
+    let s = c.args in
+    question-owes s.b.now s.msg.now _ (sound-now)
+    (heard s.b.now s.msg.now _ _ c.in-Ok.ensures c.screens_of.ensures.0) _ c.ask_book.ensures
+
+pub returns-in-Err : goal.returns-in-Err
+unfolding question_on
+returns-in-Err c =
+    let sound-now : lawful c.args.b.now ≡ true =
+    sym c.sound.ensures ∙ not-false _ c.if-not-sound.false-raw in
+    let s = c.args in
+    let k = question_kind (book_of s.b.now).screens in
+    let line = line_of k s.msg.now in
+    let told = unread k s.msg.now _
+    (heard s.b.now s.msg.now _ _ c.in-Err.ensures c.screens_of.ensures.0) in
+    rw told.1 (owes_unread s.b.now (sound-now) (readable k s.msg.now) told.0
+    (ask (book_of s.b.now) (get_or line 1 0) (stamp_at 2 line)))

@@ -7,4 +7,5 @@ use Rattle.stamp.specs.Stamp.{part}
 use Rattle.book_log.proofs.first_at_most.Given as goal
 
 abbrev pub invariant-loop-k : goal.invariant-loop-k
-invariant-loop-k l = all_below l.n (λ j. leb (part l.a j) (part l.b j)) ≡ all_below l.k (λ j. leb (part l.a j) (part l.b j))
+invariant-loop-k l =
+    all_below l.n (λ j. leb (part l.a j) (part l.b j)) ≡ all_below l.k (λ j. leb (part l.a j) (part l.b j))

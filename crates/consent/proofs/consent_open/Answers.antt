@@ -10,4 +10,4 @@ returns-in-Ok c =
 pub returns-in-Err : goal.returns-in-Err
 returns-in-Err c =
     let s = c.args in
-    refused_with s.book.now s.screen s.screens _ _ c.«open».ensures _ c.in-Err.is
+    rw c.number.ensures (refused_with s.book.now s.screen s.screens _ _ c.«open».ensures _ c.in-Err.is)

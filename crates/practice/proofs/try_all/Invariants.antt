@@ -3,8 +3,8 @@ use Prim.Native.Nat.{◌≤◌, ◌-◌}
 use lib.ListN.{length}
 use Rattle.practice.proofs.try_all.Given as goal
 
-abbrev pub invariant-loop-name : goal.invariant-loop-name
-invariant-loop-name g l = (l.at ≤ length l.file) × (l.agreed ≤ l.total) × (l.total ≤ l.at)
+abbrev pub invariant-loop-vector : goal.invariant-loop-vector
+invariant-loop-vector g l = (l.at ≤ length l.file) × (l.agreed ≤ l.total) × (l.total ≤ l.at)
 
-abbrev pub decreases-loop-name : goal.decreases-loop-name
-decreases-loop-name g l = length l.file - l.at
+abbrev pub decreases-loop-vector : goal.decreases-loop-vector
+decreases-loop-vector g l = length l.file - l.at

@@ -41,7 +41,8 @@ pub apply_record-requires : goal.apply_record-requires
 apply_record-requires c =
     let w = c.args in
     let same = c.log_row-row.ensures in
-    let found = newly_at w.before.now w.s.now _ _ (book_of w.b.now) same (sym c.is_applied.ensures ∙ c.if-not-is_applied.false)
+    let found = newly_at w.before.now w.s.now _ _ (book_of w.b.now) same
+    (sym c.is_applied.ensures ∙ c.if-not-is_applied.false)
     (sym c.is_applied-2.ensures ∙ c.if-is_applied.false) in
     let p = c.requires.applicable in
     record {
@@ -55,7 +56,8 @@ pub returns : goal.returns
 returns c =
     let w = c.args in
     let same = c.log_row-row.ensures in
-    let found = newly_at w.before.now w.s.now _ _ (book_of w.b.now) same (sym c.is_applied.ensures ∙ c.if-not-is_applied.false)
+    let found = newly_at w.before.now w.s.now _ _ (book_of w.b.now) same
+    (sym c.is_applied.ensures ∙ c.if-not-is_applied.false)
     (sym c.is_applied-2.ensures ∙ c.if-is_applied.false) in
     record {
       b_after = c.apply_record.ensures ∙ ap (λ (r : Record). words_of (added r (book_of w.b.now))) same

@@ -14,6 +14,7 @@ unfolding fit_rules
 regions_sound-requires-clause-t c =
     let p = c.args.p.now in
     let n = length p.table.now in
-    let fit = given (fit_rules n p.table.now p.value.now) (subst T (sym (sym c.stamps_fit.ensures ∙ c.if-stamps_fit.true)) tt)
+    let fit = given (fit_rules n p.table.now p.value.now)
+    (subst T (sym (sym c.stamps_fit.ensures ∙ c.if-stamps_fit.true)) tt)
     (λ rows_fit value-fits. rows_fit) in
     fits-words n (get_or p.table.now c.args.i []) (row_fits n c.args.i p.table.now c.requires.i_in_bounds.0 fit)

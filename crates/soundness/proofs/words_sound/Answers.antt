@@ -30,11 +30,7 @@ rows_of-requires c = (omega arith, omega (arith, placed c.args.b.now c.requires.
 
 pub rows_of-requires-2 : goal.rows_of-requires-2
 unfolding size
-rows_of-requires-2 c = (omega arith, omega (arith, c.value_words.ensures.1))
-
-pub rows_of-requires-3 : goal.rows_of-requires-3
-unfolding size
-rows_of-requires-3 c = (omega arith, omega (arith, placed c.args.b.now c.requires.numbers, c.log_words.ensures.1))
+rows_of-requires-2 c = (omega arith, omega (arith, placed c.args.b.now c.requires.numbers, c.log_words.ensures.1))
 
 pub slice_bounds-p-end : goal.slice_bounds-p-end
 unfolding size
@@ -51,7 +47,7 @@ pieces_sound-requires c =
     record {
       i_in_bounds = (omega (arith, n, c.rows_of.ensures.1), omega (arith, n, c.rows_of.ensures.1, most-parts));
       few = (
-        omega (arith, n, c.rows_of-3.ensures.1, log_small),
+        omega (arith, n, c.rows_of-2.ensures.1, log_small),
         omega (arith, n, taps, book_small),
         c.prompt_words.ensures.1,
       );
@@ -63,11 +59,10 @@ returns c =
     ∙ rw (
       c.rows_of.ensures.0,
       c.table_words.ensures.0,
+      c.value_words.ensures,
       c.rows_of-2.ensures.0,
-      c.value_words.ensures.0,
-      c.rows_of-3.ensures.0,
       c.log_words.ensures.0,
       c.counted_words.ensures.0,
       c.prompt_words.ensures.0,
     )
-    (pieces_read c.args.b.now c.requires.b_len)
+    (pieces_read c.args.b.now)
