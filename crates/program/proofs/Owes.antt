@@ -110,7 +110,8 @@ module _ (ws msg : List ℕ) (r : Opening) (words : List ℕ) (o : Opens (open_f
         → bytes ≡ refusal_bytes k ++ drop (length (refusal_bytes k)) out
         → Turns (message_turn ws msg false) t words out bytes
     opens-refused k q t bytes e f =
-        turned (some (refusal (table_number k))) (ap spoken_opening q) t bytes (record { gives = e; leaves = o.leaves; writes = f })
+        turned (some (refusal (table_number k))) (ap spoken_opening q) t bytes
+        (record { gives = e; leaves = o.leaves; writes = f })
 
 -- a whole message
 module _ (ws msg out : List ℕ) (opened : Bool) where
