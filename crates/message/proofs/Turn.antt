@@ -103,24 +103,24 @@ module _ (n : ℕ) (m : Stamp) (count : ℕ) (bytes : List ℕ) (i : ℕ) (h : i
 
   module _ (o q : ℕ) (l : Parts) (t : Tap)
       (read : Ok (said.Record o q l t) ≡ read_as (record_kind n m) (part_at i bytes)) where
-      known : readable (record_kind n m) (part_at i bytes) ≡ true
-      known = is_true (readable (record_kind n m) (part_at i bytes))
-          (told (record_kind n m) (part_at i bytes) (said.Record o q l t) read).0
+    known : readable (record_kind n m) (part_at i bytes) ≡ true
+    known = is_true (readable (record_kind n m) (part_at i bytes))
+        (told (record_kind n m) (part_at i bytes) (said.Record o q l t) read).0
 
-      stands : place (record_from (record_kind n m) (part_at i bytes)) ≡ o ∷ q ∷ []
-      unfolding record_from
-      stands = rw (told_line (record_kind n m) (part_at i bytes) (said.Record o q l t) read (lawful_record n m))
+    stands : place (record_from (record_kind n m) (part_at i bytes)) ≡ o ∷ q ∷ []
+    unfolding record_from
+    stands = rw (told_line (record_kind n m) (part_at i bytes) (said.Record o q l t) read (lawful_record n m))
 
-      pub pass_falls : key_before last (o ∷ q ∷ []) ≡ false
-          → rises_from (record_kind n m) last (drop i (parts_of count bytes)) ≡ false
-      unfolding left
-      pass_falls b = step ∙ rw (known, stands, b)
+    pub pass_falls : key_before last (o ∷ q ∷ []) ≡ false
+        → rises_from (record_kind n m) last (drop i (parts_of count bytes)) ≡ false
+    unfolding left
+    pass_falls b = step ∙ rw (known, stands, b)
 
-      pub pass_on : key_before last (o ∷ q ∷ []) ≡ true
-          → rises_from (record_kind n m) last (drop i (parts_of count bytes))
-          ≡ rises_from (record_kind n m) (o ∷ q ∷ []) (drop (i + 1) (parts_of count bytes))
-      unfolding left
-      pass_on b = step ∙ rw (known, stands, b)
+    pub pass_on : key_before last (o ∷ q ∷ []) ≡ true
+        → rises_from (record_kind n m) last (drop i (parts_of count bytes))
+        ≡ rises_from (record_kind n m) (o ∷ q ∷ []) (drop (i + 1) (parts_of count bytes))
+    unfolding left
+    pass_on b = step ∙ rw (known, stands, b)
 
 pub pass-end : (k : Kind) (n : ℕ) (bytes : List ℕ) (i : ℕ) (last : List ℕ) → n ≤ i
     → rises_from k last (drop i (parts_of n bytes)) ≡ true
