@@ -86,7 +86,7 @@ fn read_full<R: Read>(from: &mut R, buf: &mut [u8]) -> io::Result<usize>
     ensures { IfOk result (λ n. n ≤ length buf.new) }
 {
     let mut done = 0;
-    // Kept: a while, since each read says how far the next begins, and `read_exact` tells no count where the file ends.
+    // Kept: a while, since each read says where the next begins, and `read_exact` tells no count where the file ends.
     while done < buf.len() {
         let came = from.read(&mut buf[done..])?;
         if came == 0 {

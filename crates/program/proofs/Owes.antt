@@ -6,25 +6,22 @@ use mathlib.Core.Bool.{Bool, true, false, cond, ◌&&◌}
 use mathlib.Core.List.{List, ◌++◌}
 use mathlib.Core.Option.{Option, none, some}
 use borrow.Author.Tests.{le-ltb}
-use lib.Dec.{T, eqb}
-use lib.ListN.{length, get_or, drop}
-use Rattle.wire.specs.Kinds.{open_kind, refusal_kind, in_table, longest}
-use Rattle.wire.specs.Read.{line_of, readable}
+use lib.Dec.{eqb}
+use lib.ListN.{length, drop}
+use Rattle.wire.specs.Kinds.{longest}
 use Rattle.wire.specs.Write.{Written, Output, Meets, refuse}
 use Rattle.std.specs.Prelude.{Ok, Err}
 use Rattle.wire.specs.Refusal.{table_number}
 use Rattle.wire.specs.declared.Refusal.{Refusal}
 use Rattle.wire.specs.declared.Refusal.TheVariants.{Short}
 use Rattle.meaning.specs.Reply.{Reply, refusal}
-use Rattle.lent.specs.Words.{book_long}
-use Rattle.promise.specs.Lent.{open_on}
 use Rattle.open_step.specs.Opening.{Opening, Opens, spoken_opening}
 use Rattle.frames.specs.Next.{next_of}
 use Rattle.frames.specs.declared.Frame.{Frame}
 use Rattle.answer.specs.Speech.{refusal_bytes, say_on}
 use Rattle.answer.specs.SpeechLaws.{says-put, reply-long, refusal-says}
 use Rattle.answer.specs.Answer.{done_on, answer_on, Answers, open_from}
-use Rattle.answer.specs.AnswerLaws.{front, within, room_most, unsound-says}
+use Rattle.answer.specs.AnswerLaws.{front, within, room_most}
 use Rattle.program.specs.Said.{bad}
 use Rattle.program.specs.Turn.{Turned, last_turn, quiet_turn, more_turn, open_turn, message_turn, turn_by, turn_on}
 use Rattle.program.specs.Turn.{Turns}

@@ -87,8 +87,7 @@ pub fn next_turn(book: &mut [u64], read: &[u8], ended: bool, opened: bool, out: 
     ensures { Turns (turn_on book.old read.now ended opened) result book.new
         out.old out.new }
 {
-    let frame = next_in(read, opened);
-    match frame {
+    match next_in(read, opened) {
         Frame::More(n) => more_turn(book, read, ended, opened, n, out),
         Frame::Whole(n) => message_turn(book, &read[..n], opened, out),
         Frame::Stop => last_refusal(Refusal::Bad, out),

@@ -57,7 +57,7 @@ module _ (b : Book) (s : Sound b) where
   pub send-on : (out : List ℕ) → send_on (words_of b) out ≡ put_front (message_bytes (send b)) out
   unfolding send_on
   send-on out = ap (λ (c : Bool). cond c (put_front (message_bytes (send (book_of (words_of b)))) out)
-  (refuse Unsound out))
+      (refuse Unsound out))
       lawful-now ∙ ap (λ (x : Book). put_front (message_bytes (send x)) out) book-back
 
 -- send answers by the first of its stops that holds

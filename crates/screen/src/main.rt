@@ -15,8 +15,7 @@ fn read_full<R: Read>(input: &mut R, buf: &mut [u8]) -> io::Result<usize>
     ensures { IfOk result (λ n. n ≤ length buf.new) }
 {
     let mut done = 0;
-    // Kept: a while, since each read says how far the next begins, and `read_exact` tells no count where the input
-    // ends.
+    // Kept: a while, since each read says where the next begins, and `read_exact` tells no count where the input ends.
     while done < buf.len() {
         let came = input.read(&mut buf[done..])?;
         if came == 0 {
@@ -43,7 +42,7 @@ fn main(rt: HostRuntime) -> io::Result<()> {
                 ended = got < n - have;
                 have += got;
             }
-            Turn::Say { used: _, said } => {
+            Turn::Say { said, .. } => {
                 rt.write_all(&out[..said])?;
                 have = 0;
                 opened = true;

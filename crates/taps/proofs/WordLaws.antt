@@ -13,7 +13,7 @@ use lib.Seq.{length-take-le, take-take, paste, set-append_left, set_split}
 use borrow.Author.Tests.{lt-ltb, le-ltb}
 use Rattle.std.proofs.Common.{ltb→lt, ltb-true, ltb-false, drop_of_length-le}
 use Rattle.std.proofs.lemmas.List.{drop-take}
-use Rattle.std.specs.List.{AllAdjacentBelow, IsAllAdjacentAnswer}
+use Rattle.std.specs.List.{AllWithin, AllAdjacentBelow, IsAllAdjacentAnswer}
 use Rattle.std.specs.List.Sorted.{IsNonDecreasingBy, IsPartitionPoint}
 use Rattle.lists.proofs.Neighbours.{rising-next}
 use Rattle.lists.specs.Order.{key_before, rising, insert}
@@ -31,8 +31,10 @@ rising-adjacent [] h = refl
 rising-adjacent (x ∷ []) h = refl
 rising-adjacent (x ∷ y ∷ l) h =
     rising-next word_key x y l
-    ∙ rw (word-before x y, ← h 0 0 (omega arith)) (rising-adjacent (y ∷ l) (λ k d b. let e : suc k + 1
-    ≡ suc (k + 1) = omega arith in rw e at (h (suc k) d (omega arith))))
+    ∙ rw (word-before x y, ← h 0 0 (omega arith)) (rising-adjacent (y ∷ l) further)
+  where
+    further : AllAdjacentBelow (λ v w. true ≡ ltb v w) (y ∷ l) (length (y ∷ l))
+    further k d b = let e : suc k + 1 ≡ suc (k + 1) = omega arith in rw e at (h (suc k) d (omega arith))
 
 -- a word that is not below the next
 rising-broken : (l : List ℕ) (k : ℕ) → k + 1 < length l
@@ -43,8 +45,8 @@ rising-broken (x ∷ y ∷ l) zero h b = rising-next word_key x y l ∙ rw (word
 rising-broken (x ∷ y ∷ l) (suc k) h b =
     let e : suc k + 1 ≡ suc (k + 1) = omega arith in
     rising-next word_key x y l
-    ∙ ap (λ (c : Bool). key_before (word_key x) (word_key y) && c) (rising-broken (y ∷ l) k (omega arith)
-    (λ d. rw e at (b d)))
+    ∙ ap (λ (c : Bool). key_before (word_key x) (word_key y) && c)
+    (rising-broken (y ∷ l) k (omega arith) (λ d. rw e at (b d)))
     ∙ ends (key_before (word_key x) (word_key y))
   where
     ends : (c : Bool) → c && false ≡ false
@@ -95,10 +97,10 @@ insert-at w (x ∷ l) zero p h n =
     rw (before w x up)
 insert-at w (x ∷ l) (suc i) p h n =
     let up : x < w = ltb-true x w (p.0 zero zero (omega arith) (omega arith)) in
-    let rest = insert-at w l i (
-      λ k d a b. p.0 (suc k) d (omega arith) (omega arith),
-      λ k d a b. p.1 (suc k) d (omega arith) (omega arith),
-    )
+    let smaller : AllWithin (λ v. ltb v w ≡ true) l 0 i = λ k d a b. p.0 (suc k) d (omega arith) (omega arith) in
+    let larger : AllWithin (λ v. ltb v w ≡ false) l i (length l) =
+    λ k d a b. p.1 (suc k) d (omega arith) (omega arith) in
+    let rest = insert-at w l i (smaller, larger)
     (omega arith) (neither (eqb x w) (exists (λ v. eqb v w) l) n).1 in
     rw (after w x (omega arith), before x w up) (ap (λ (k : List ℕ). x ∷ k) rest)
 
@@ -115,8 +117,8 @@ module _ (r : List ℕ) (n i w : ℕ) (le : i ≤ n) (lt : n < length r) where
       ∙ ap₂ (λ (a b : List ℕ). a ++ (w ∷ b)) (take-take i (i + 1) r (omega arith))
       (drop_of_length-le (take (i + 1) r) all)
 
-  moved-up : set (paste r (i + 1) (drop i r) (n - i)) i w ≡ (take i (take n r) ++ (w ∷ drop i (take n r)))
-      ++ drop (n + 1) r
+  moved-up : set (paste r (i + 1) (drop i r) (n - i)) i w
+      ≡ (take i (take n r) ++ (w ∷ drop i (take n r))) ++ drop (n + 1) r
   moved-up =
       let e : i + (n - i) ≡ n = omega arith in
       let f : i + 1 + (n - i) ≡ n + 1 = omega arith in

@@ -19,7 +19,9 @@ pub returns : goal.returns
 returns c =
     let s = c.args in
     let inside : (s.opened && eqb (length s.read.now) 0) ≡ false =
-    elim c.else-opened.branch [ else-opened-via-then-opened+else-is_empty w ↦ search rules |
-    else-opened-via-else-opened w ↦ search rules ] in
+    elim c.else-opened.branch [
+      | else-opened-via-then-opened+else-is_empty w ↦ search rules
+      | else-opened-via-else-opened w ↦ search rules
+    ] in
     more_breaks s.book.now s.read.now s.ended s.opened s.n s.out.now (search rules) inside
     _ _ c.last_refusal.ensures.value c.last_refusal.ensures.out_after

@@ -10,23 +10,23 @@ pub slice_bounds-message_turn-end : goal.slice_bounds-message_turn-end
 slice_bounds-message_turn-end c =
     let s = c.args in
     sym (length-take-le c.in-Whole.n s.read.now
-    (next-whole s.read.now s.opened _ (sym c.next_in-frame.ensures ∙ c.in-Whole.is)).1)
+    (next-whole s.read.now s.opened _ (sym c.next_in.ensures ∙ c.in-Whole.is)).1)
 
 pub returns-in-More : goal.returns-in-More
 returns-in-More c =
     let s = c.args in
     turn-owes s.book.now s.read.now s.ended s.opened s.out.now _
-    (sym c.in-More.is ∙ c.next_in-frame.ensures) _ _ _ c.more_turn.ensures
+    (sym c.in-More.is ∙ c.next_in.ensures) _ _ _ c.more_turn.ensures
 
 pub returns-in-Whole : goal.returns-in-Whole
 returns-in-Whole c =
     let s = c.args in
     turn-owes s.book.now s.read.now s.ended s.opened s.out.now _
-    (sym c.in-Whole.is ∙ c.next_in-frame.ensures) _ _ _ c.message_turn.ensures
+    (sym c.in-Whole.is ∙ c.next_in.ensures) _ _ _ c.message_turn.ensures
 
 pub returns-in-Stop : goal.returns-in-Stop
 returns-in-Stop c =
     let s = c.args in
     turn-owes s.book.now s.read.now s.ended s.opened s.out.now _
-    (sym c.in-Stop.is ∙ c.next_in-frame.ensures) _ _ _
+    (sym c.in-Stop.is ∙ c.next_in.ensures) _ _ _
     (last-owes s.book.now bad s.out.now _ _ c.last_refusal.ensures.value c.last_refusal.ensures.out_after)

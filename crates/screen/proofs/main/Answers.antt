@@ -65,8 +65,8 @@ loop-preserved c =
     elim c.match-next_turn.branch [
       | in-Read+in_ok-got-in-Read w ↦
           let a = asked _ l.msg _ _ _ _ _ l.have _ _ c.next_turn.ensures w.in-Read.is (omega arith) in
-          let long = ap length w.msg-is ∙ same_len_mid l.have _ l.msg w.read_full.new.buf (search rules)
-          ∙ l.invariant.1 in (
+          let part = same_len_mid l.have _ l.msg w.read_full.new.buf (search rules) in
+          let long = ap length w.msg-is ∙ part ∙ l.invariant.1 in (
             search rules,
             long,
             search rules,
