@@ -1,9 +1,7 @@
 -- Laws of the log's words: records and rows give each other back. Assumes nothing.
---     taken_chunks   the first rows of a list, as `as_chunks` lends them
-use Rattle.std.specs.Prelude.{ℕ, zero, suc, ◌+◌, ◌-◌, ◌*◌, ◌≤◌, ◌≡◌, refl, Bool, List, [], ◌∷◌, ◌++◌, map, T}
+use Rattle.std.specs.Prelude.{ℕ, suc, ◌+◌, ◌-◌, ◌*◌, ◌≤◌, ◌≡◌, refl, Bool, List, [], ◌∷◌, ◌++◌, map, T}
 use Rattle.std.specs.Prelude.{eqb, length}
 use Rattle.std.specs.Prelude.{take, drop, get_or, replicate}
-use Rattle.std.specs.Simd.{first_chunks}
 use Rattle.std.proofs.Common.{arith, sym, ap, ap₂, ◌∙◌, append_assoc, length-append, take-append-drop}
 use Rattle.std.proofs.Common.{drop_of_length-le, take_at, drop-drop}
 use Rattle.std.proofs.Math.Dec.{eqb→eq}
@@ -16,13 +14,6 @@ use Rattle.lists.specs.Rows.{rows, flat}
 use Rattle.lists.specs.RowLaws.{Wide, length-rows, length-flat, wide_rows, flat_rows, rows-flat}
 use Rattle.ledger.specs.Record.{Record}
 use Rattle.book_log.specs.Region.{row_long, record_at, row_of, records_at, log_words, body_place}
-
-pub taken_chunks : (w k n : ℕ) (l : List ℕ) → k ≤ n → take k (first_chunks w n l) ≡ rows w k l
-unfolding rows
-taken_chunks w zero n l h = refl
-taken_chunks w (suc k) zero l h = absurd (omega arith)
-taken_chunks w (suc k) (suc n) l h =
-    ap (λ (rs : List (List ℕ)). take w l ∷ rs) (taken_chunks w k n (drop w l) (omega arith))
 
 -- a record whose label has eight parts
 unfoldable pub whole_label : Record → Bool

@@ -11,6 +11,7 @@ use borrow.Author.Tests.{lt-ltb}
 use Rattle.lists.specs.TestLaws.{is_true}
 use Rattle.lists.proofs.ElementLaws.{regroup}
 use Rattle.lists.proofs.Neighbours.{rising-next}
+use Rattle.lists.specs.RowLaws.{taken_chunks}
 use Rattle.lists.specs.Order.{key_before, rising}
 use Rattle.lists.specs.Tests.{every}
 use Rattle.stamp.specs.Stamp.{Stamp}
@@ -129,13 +130,6 @@ pass-end k n bytes i last h =
     let e : length (parts_of n bytes) ≤ i = rw (length-parts n bytes) h in rw (drop_of_length-le (parts_of n bytes) e)
 
 -- the records as arrays are the parts
-taken_chunks : (w k n : ℕ) (l : List ℕ) → k ≤ n → take k (first_chunks w n l) ≡ rows w k l
-unfolding rows
-taken_chunks w zero n l h = refl
-taken_chunks w (suc k) zero l h = absurd (omega arith)
-taken_chunks w (suc k) (suc n) l h = ap (λ (rs : List (List ℕ)). take w l ∷ rs)
-    (taken_chunks w k n (drop w l) (omega arith))
-
 pub lower_below : (o count : ℕ) (bytes : List ℕ) → head_long + count * record_long ≤ length bytes
     → count_by (λ p. nat_lt (get_or p 1 0) o) (take count (first_chunks record_long
     (length (take (length bytes - head_long) (drop head_long bytes)) / record_long)

@@ -96,8 +96,13 @@ answer_back (says.Taken s) = ap says.Taken (parts_list s)
 answer_back (says.Already s) = ap says.Already (parts_list s)
 answer_back (says.Verdict v) =
     ap (λ (s : Parts).
-    says.Verdict (record { verdict = v.verdict; showing = v.showing; accepts = v.accepts; declines = v.declines;
-    value = s }))
+    says.Verdict (record {
+      verdict = v.verdict;
+      showing = v.showing;
+      accepts = v.accepts;
+      declines = v.declines;
+      value = s;
+    }))
     (parts_list v.value)
 answer_back (says.Wait bits) = refl
 answer_back (says.Refused r) = ap says.Refused (numbered_back r)

@@ -3,7 +3,7 @@ use Rattle.std.proofs.Common.{◌≡◌, ◌≤◌, ◌/◌, length, take, ap, �
 use Rattle.std.proofs.Math.Nat.{le-div_iff_mul-le}
 use Rattle.lists.specs.RowLaws.{length-rows}
 use Rattle.lists.specs.Rows.{rows}
-use Rattle.book_log.specs.RegionLaws.{taken_chunks}
+use Rattle.lists.specs.RowLaws.{taken_chunks}
 use Rattle.book_log.proofs.rows_of.Goals as goal
 
 pub returns : goal.returns

@@ -15,6 +15,10 @@ loop-i-preserved c =
     let e : i + 1 ≡ c.loop-i.i = omega arith in
     let m : c.loop-i.n * 2 + c.from.result
     ≡ excess (drop i s.a.now) (drop i s.b.now) =
-    omega (arith, byte-over (get_or s.a.now i 0) (get_or s.b.now i 0), rw e at (excess-more s.a.now s.b.now i
-    (omega arith) (omega arith))) in
+    omega (
+      arith,
+      byte-over (get_or s.a.now i 0) (get_or s.b.now i 0),
+      rw e at (excess-more s.a.now s.b.now i
+          (omega arith) (omega arith)),
+    ) in
     (m, rw m (excess-few (drop i s.a.now) (drop i s.b.now) (simp length-drop (omega arith))))
