@@ -32,12 +32,10 @@ pub fn speak(reply: Reply, out: &mut [u8]) -> Result<usize, Refusal>
     match reply {
         Reply::Taken(stamp) => write_taken(stamp, out),
         Reply::Already(stamp) => write_already(stamp, out),
-        Reply::Verdict(v) => {
-            write_verdict(v.verdict, v.showing, v.accepts, v.declines, v.value, out)
-        }
+        Reply::Verdict(answer) => write_verdict(answer, out),
         Reply::Wait(bits) => write_wait(bits, out),
         Reply::Refused(refusal) => write_refusal(refusal.number(), out),
-        Reply::Gossiped(taken) => write_gossip_taken(taken.new, taken.applied, out),
+        Reply::Gossiped(taken) => write_gossip_taken(taken, out),
     }
 }
 

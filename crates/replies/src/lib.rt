@@ -13,13 +13,12 @@ ghost use Rattle.wire.specs.Says as said;
 ghost use Rattle.replies.specs.Which.{reply_kind};
 
 use limits::PARTS;
-use numbers::read_fields;
 use stamp::{Parts, parts_at, put_parts};
 use tally::{CONTESTED, UNASKED};
 use wire::{
     ALREADY, BITS_WIDTH, GOSSIP_TAKEN, GOSSIP_TAKEN_BODY, GossipTaken, KIND_SIZE, PART_WIDTH,
     REFUSAL, REFUSAL_BODY, Refusal, TAKEN, TAKEN_BODY, VERDICT, VERDICT_BODY, Verdict, WAIT,
-    WAIT_BODY, is_kind, put_line,
+    WAIT_BODY, put_line, read_line,
 };
 
 // Where the fields stand in a line: the kind first, a stamp in as many places as it has parts.
@@ -86,12 +85,7 @@ fn stamp_widths() -> [usize; STAMP_LINE]
 pub fn read_taken(msg: &[u8]) -> Result<Parts, Refusal>
     ensures { says said.Taken result ≡ read_as taken_kind msg.now }
 {
-    if !is_kind(msg, TAKEN) {
-        return Err(Refusal::Bad);
-    }
-    let ws = stamp_widths();
-    let mut line = [0u64; STAMP_LINE];
-    read_fields(&mut line, &ws, msg);
+    let line = read_line(TAKEN, &stamp_widths(), msg)?;
     Ok(parts_at(&line, FIRST))
 }
 
@@ -104,12 +98,7 @@ pub fn write_taken(stamp: Parts, out: &mut [u8]) -> Result<usize, Refusal>
 pub fn read_already(msg: &[u8]) -> Result<Parts, Refusal>
     ensures { says said.Already result ≡ read_as already_kind msg.now }
 {
-    if !is_kind(msg, ALREADY) {
-        return Err(Refusal::Bad);
-    }
-    let ws = stamp_widths();
-    let mut line = [0u64; STAMP_LINE];
-    read_fields(&mut line, &ws, msg);
+    let line = read_line(ALREADY, &stamp_widths(), msg)?;
     Ok(parts_at(&line, FIRST))
 }
 
@@ -125,19 +114,15 @@ fn put_stamp(kind: u8, s: Parts, out: &mut [u8]) -> Result<usize, Refusal>
     ensures { Meets (put_line (1 ∷ stamp_body) (kind ∷ list_of s) out.old) result out.new }
 {
     let mut line = [0u64; STAMP_LINE];
-    line[KIND] = kind as u64;
+    line[KIND] = u64::from(kind);
     put_parts(&mut line, FIRST, s);
-    let ws = stamp_widths();
-    put_line(&ws, STAMP_SIZE, &line, out)
+    put_line(&stamp_widths(), STAMP_SIZE, &line, out)
 }
 
 fn verdict_fits(verdict: u64) -> bool
     ensures { result ≡ leb verdict 3 }
 {
-    match verdict {
-        UNASKED..=CONTESTED => true,
-        _ => false,
-    }
+    matches!(verdict, UNASKED..=CONTESTED)
 }
 
 fn verdict_widths() -> [usize; VERDICT_LINE]
@@ -155,86 +140,61 @@ fn verdict_widths() -> [usize; VERDICT_LINE]
 pub fn read_verdict(msg: &[u8]) -> Result<Verdict, Refusal>
     ensures { says verdict_says result ≡ read_as verdict_kind msg.now }
 {
-    if !is_kind(msg, VERDICT) {
-        return Err(Refusal::Bad);
-    }
-    let ws = verdict_widths();
-    let mut line = [0u64; VERDICT_LINE];
-    read_fields(&mut line, &ws, msg);
-    let verdict = line[FIRST];
-    if !verdict_fits(verdict) {
-        return Err(Refusal::Bad);
-    }
-    let value = parts_at(&line, FIFTH);
-    Ok(Verdict {
-        verdict,
+    let line = read_line(VERDICT, &verdict_widths(), msg)?;
+    let answer = Verdict {
+        verdict: line[FIRST],
         showing: line[SECOND],
         accepts: line[THIRD],
         declines: line[FOURTH],
-        value,
-    })
+        value: parts_at(&line, FIFTH),
+    };
+    if !verdict_fits(answer.verdict) {
+        return Err(Refusal::Bad);
+    }
+    Ok(answer)
 }
 
-pub fn write_verdict(
-    verdict: u64,
-    showing: u64,
-    accepts: u64,
-    declines: u64,
-    value: Parts,
-    out: &mut [u8],
-) -> Result<usize, Refusal>
-    ensures { Meets (write_as verdict_kind (figures (said.Verdict verdict showing accepts declines value))
-        out.old) result out.new }
+pub fn write_verdict(answer: Verdict, out: &mut [u8]) -> Result<usize, Refusal>
+    ensures { Meets (write_as verdict_kind (figures (verdict_says answer)) out.old) result out.new }
 {
-    if !verdict_fits(verdict) {
+    if !verdict_fits(answer.verdict) {
         return Err(Refusal::Bad);
     }
     let mut line = [0u64; VERDICT_LINE];
-    line[KIND] = VERDICT as u64;
-    line[FIRST] = verdict;
-    line[SECOND] = showing;
-    line[THIRD] = accepts;
-    line[FOURTH] = declines;
-    put_parts(&mut line, FIFTH, value);
-    let ws = verdict_widths();
-    put_line(&ws, VERDICT_SIZE, &line, out)
+    line[KIND] = u64::from(VERDICT);
+    line[FIRST] = answer.verdict;
+    line[SECOND] = answer.showing;
+    line[THIRD] = answer.accepts;
+    line[FOURTH] = answer.declines;
+    put_parts(&mut line, FIFTH, answer.value);
+    put_line(&verdict_widths(), VERDICT_SIZE, &line, out)
 }
 
 pub fn read_wait(msg: &[u8]) -> Result<u64, Refusal>
     ensures { says said.Wait result ≡ read_as wait_kind msg.now }
 {
-    if !is_kind(msg, WAIT) {
-        return Err(Refusal::Bad);
-    }
-    let mut line = [0u64; WAIT_LINE];
-    read_fields(&mut line, &WAIT_WIDTHS, msg);
+    let line = read_line(WAIT, &WAIT_WIDTHS, msg)?;
     Ok(line[FIRST])
 }
 
 pub fn write_wait(bits: u64, out: &mut [u8]) -> Result<usize, Refusal>
     ensures { Meets (write_as wait_kind (figures (said.Wait bits)) out.old) result out.new }
 {
-    let line = [WAIT as u64, bits];
+    let line = [u64::from(WAIT), bits];
     put_line(&WAIT_WIDTHS, WAIT_SIZE, &line, out)
 }
 
+#[tactic(auto, unfolding(wire::specs::Kinds::in_table))]
 fn in_table(number: u64) -> bool
     ensures { result ≡ in_table number }
 {
-    match number {
-        FIRST_REFUSAL..=BEFORE_TEN | AFTER_TEN..=LAST_REFUSAL => true,
-        _ => false,
-    }
+    matches!(number, FIRST_REFUSAL..=BEFORE_TEN | AFTER_TEN..=LAST_REFUSAL)
 }
 
 pub fn read_refusal(msg: &[u8]) -> Result<u64, Refusal>
     ensures { says said.Refusal result ≡ read_as refusal_kind msg.now }
 {
-    if !is_kind(msg, REFUSAL) {
-        return Err(Refusal::Bad);
-    }
-    let mut line = [0u64; REFUSAL_LINE];
-    read_fields(&mut line, &REFUSAL_WIDTHS, msg);
+    let line = read_line(REFUSAL, &REFUSAL_WIDTHS, msg)?;
     let number = line[FIRST];
     if !in_table(number) {
         return Err(Refusal::Bad);
@@ -248,29 +208,24 @@ pub fn write_refusal(number: u64, out: &mut [u8]) -> Result<usize, Refusal>
     if !in_table(number) {
         return Err(Refusal::Bad);
     }
-    let line = [REFUSAL as u64, number];
+    let line = [u64::from(REFUSAL), number];
     put_line(&REFUSAL_WIDTHS, REFUSAL_SIZE, &line, out)
 }
 
 pub fn read_gossip_taken(msg: &[u8]) -> Result<GossipTaken, Refusal>
     ensures { says gossip_taken_says result ≡ read_as gossip_taken_kind msg.now }
 {
-    if !is_kind(msg, GOSSIP_TAKEN) {
-        return Err(Refusal::Bad);
-    }
-    let mut line = [0u64; GOSSIP_TAKEN_LINE];
-    read_fields(&mut line, &GOSSIP_TAKEN_WIDTHS, msg);
+    let line = read_line(GOSSIP_TAKEN, &GOSSIP_TAKEN_WIDTHS, msg)?;
     Ok(GossipTaken {
         new: line[FIRST],
         applied: line[SECOND],
     })
 }
 
-pub fn write_gossip_taken(new: u64, applied: u64, out: &mut [u8]) -> Result<usize, Refusal>
-    ensures { Meets (write_as gossip_taken_kind (figures (said.GossipTaken new applied)) out.old) result
-        out.new }
+pub fn write_gossip_taken(taken: GossipTaken, out: &mut [u8]) -> Result<usize, Refusal>
+    ensures { Meets (write_as gossip_taken_kind (figures (gossip_taken_says taken)) out.old) result out.new }
 {
-    let line = [GOSSIP_TAKEN as u64, new, applied];
+    let line = [u64::from(GOSSIP_TAKEN), taken.new, taken.applied];
     put_line(&GOSSIP_TAKEN_WIDTHS, GOSSIP_TAKEN_SIZE, &line, out)
 }
 

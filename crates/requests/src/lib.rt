@@ -17,13 +17,12 @@ ghost use Rattle.wire.specs.Says as said;
 
 use ledger::{in_range, label_fits};
 use limits::{LOG_ROOM, PARTS};
-use numbers::read_fields;
 use stamp::{Parts, list_of, part_of, parts_at, parts_fit, put_parts};
 use tally::{Tap, fits, prompt_fits};
 use wire::{
     HEAD, HEAD_SIZE, Head, KIND_SIZE, OPEN, OPEN_BODY, Open, PART_WIDTH, QUESTION, QUESTION_BODY,
     Question, RECORD, RECORD_SIZE, Record, Refusal, SEND, SEND_BODY, TAP, TAP_BODY, TapRequest,
-    is_kind, put_line,
+    is_kind, put_line, read_line,
 };
 
 // Where the fields stand in a line: the kind first, a stamp in as many places as it has parts, a tap in five.
@@ -109,26 +108,21 @@ fn put_tap(line: &mut [u64], at: usize, tap: Tap)
     line[at + 4] = tap.answer;
 }
 
+#[tactic(auto, unfolding(limits::specs::Limits::log_room))]
 fn count_fits(count: u64) -> bool
     ensures { result ≡ leb count log_room }
 {
-    match count {
-        0..=LOG_ROOM => true,
-        _ => false,
-    }
+    matches!(count, 0..=LOG_ROOM)
 }
 
 // The field rules of each kind, for its reader and its writer alike.
-fn head_fits(sender: u64, screens: u64, count: u64, stamp: Parts) -> bool
-    ensures { result ≡ head_kind.rules (figures (said.Head sender screens count stamp)) }
+#[tactic(auto, unfolding(wire::specs::Kinds::head_kind, stamp::specs::Parts::parts_at, stamp::specs::Parts::list_of))]
+fn head_fits(head: Head) -> bool
+    ensures { result ≡ head_kind.rules (figures (head_says head)) }
 {
-    if !in_range(sender, screens) {
-        return false;
-    }
-    if !count_fits(count) {
-        return false;
-    }
-    parts_fit(stamp, screens as usize)
+    in_range(head.sender, head.screens)
+        && count_fits(head.count)
+        && parts_fit(head.stamp, head.screens as usize)
 }
 
 // A line's widths, for its reader and its writer alike: a stamp's fill the line, the others are set over them.
@@ -146,61 +140,45 @@ fn head_widths() -> [usize; HEAD_LINE]
 pub fn read_head(msg: &[u8]) -> Result<Head, Refusal>
     ensures { says head_says result ≡ read_as head_kind msg.now }
 {
-    if !is_kind(msg, HEAD) {
+    let line = read_line(HEAD, &head_widths(), msg)?;
+    let head = Head {
+        sender: line[FIRST],
+        screens: line[SECOND],
+        count: line[THIRD],
+        stamp: parts_at(&line, HEAD_STAMP),
+    };
+    if !head_fits(head) {
         return Err(Refusal::Bad);
     }
-    let ws = head_widths();
-    let mut line = [0u64; HEAD_LINE];
-    read_fields(&mut line, &ws, msg);
-    let sender = line[FIRST];
-    let screens = line[SECOND];
-    let count = line[THIRD];
-    let stamp = parts_at(&line, HEAD_STAMP);
-    if !head_fits(sender, screens, count, stamp) {
-        return Err(Refusal::Bad);
-    }
-    Ok(Head {
-        sender,
-        screens,
-        count,
-        stamp,
-    })
+    Ok(head)
 }
 
-pub fn write_head(
-    sender: u64,
-    screens: u64,
-    count: u64,
-    stamp: Parts,
-    out: &mut [u8],
-) -> Result<usize, Refusal>
-    ensures { Meets (write_as head_kind (figures (said.Head sender screens count stamp)) out.old) result
-        out.new }
+pub fn write_head(head: Head, out: &mut [u8]) -> Result<usize, Refusal>
+    ensures { Meets (write_as head_kind (figures (head_says head)) out.old) result out.new }
 {
-    if !head_fits(sender, screens, count, stamp) {
+    if !head_fits(head) {
         return Err(Refusal::Bad);
     }
     let mut line = [0u64; HEAD_LINE];
-    line[KIND] = HEAD as u64;
-    line[FIRST] = sender;
-    line[SECOND] = screens;
-    line[THIRD] = count;
-    put_parts(&mut line, HEAD_STAMP, stamp);
-    let ws = head_widths();
-    put_line(&ws, HEAD_SIZE, &line, out)
+    line[KIND] = u64::from(HEAD);
+    line[FIRST] = head.sender;
+    line[SECOND] = head.screens;
+    line[THIRD] = head.count;
+    put_parts(&mut line, HEAD_STAMP, head.stamp);
+    put_line(&head_widths(), HEAD_SIZE, &line, out)
 }
 
-fn record_fits(origin: u64, number: u64, label: Parts, tap: Tap, n: usize, m: Parts) -> bool
-    ensures { result ≡ (record_kind n (list_of m)).rules (figures (said.Record origin number label tap)) }
+fn record_fits(entry: Record, n: usize, m: Parts) -> bool
+    ensures { result ≡ (record_kind n (list_of m)).rules (figures (record_says entry)) }
 {
-    if !fits(tap) {
+    if !fits(entry.tap) {
         return false;
     }
-    let l = list_of(label);
-    if !label_fits(origin, number, &l, n) {
+    let label = list_of(entry.label);
+    if !label_fits(entry.origin, entry.number, &label, n) {
         return false;
     }
-    number <= part_of(m, origin)
+    entry.number <= part_of(m, entry.origin)
 }
 
 fn record_widths() -> [usize; RECORD_LINE]
@@ -218,59 +196,39 @@ fn record_widths() -> [usize; RECORD_LINE]
 pub fn read_record(part: &[u8], n: usize, m: Parts) -> Result<Record, Refusal>
     ensures { says record_says result ≡ read_as (record_kind n (list_of m)) part.now }
 {
-    if !is_kind(part, RECORD) {
+    let line = read_line(RECORD, &record_widths(), part)?;
+    let entry = Record {
+        origin: line[FIRST],
+        number: line[SECOND],
+        label: parts_at(&line, RECORD_LABEL),
+        tap: tap_at(&line, RECORD_TAP),
+    };
+    if !record_fits(entry, n, m) {
         return Err(Refusal::Bad);
     }
-    let ws = record_widths();
-    let mut line = [0u64; RECORD_LINE];
-    read_fields(&mut line, &ws, part);
-    let origin = line[FIRST];
-    let number = line[SECOND];
-    let label = parts_at(&line, RECORD_LABEL);
-    let tap = tap_at(&line, RECORD_TAP);
-    if !record_fits(origin, number, label, tap, n, m) {
-        return Err(Refusal::Bad);
-    }
-    Ok(Record {
-        origin,
-        number,
-        label,
-        tap,
-    })
+    Ok(entry)
 }
 
-pub fn write_record(
-    origin: u64,
-    number: u64,
-    label: Parts,
-    tap: Tap,
-    n: usize,
-    m: Parts,
-    out: &mut [u8],
-) -> Result<usize, Refusal>
-    ensures { Meets (write_as (record_kind n (list_of m)) (figures (said.Record origin number label tap))
-        out.old) result out.new }
+pub fn write_record(entry: Record, n: usize, m: Parts, out: &mut [u8]) -> Result<usize, Refusal>
+    ensures { Meets (write_as (record_kind n (list_of m)) (figures (record_says entry)) out.old) result out.new }
 {
-    if !record_fits(origin, number, label, tap, n, m) {
+    if !record_fits(entry, n, m) {
         return Err(Refusal::Bad);
     }
     let mut line = [0u64; RECORD_LINE];
-    line[KIND] = RECORD as u64;
-    line[FIRST] = origin;
-    line[SECOND] = number;
-    put_parts(&mut line, RECORD_LABEL, label);
-    put_tap(&mut line, RECORD_TAP, tap);
-    let ws = record_widths();
-    put_line(&ws, RECORD_SIZE, &line, out)
+    line[KIND] = u64::from(RECORD);
+    line[FIRST] = entry.origin;
+    line[SECOND] = entry.number;
+    put_parts(&mut line, RECORD_LABEL, entry.label);
+    put_tap(&mut line, RECORD_TAP, entry.tap);
+    put_line(&record_widths(), RECORD_SIZE, &line, out)
 }
 
-fn tap_fits(tap: Tap, label: Parts, n: usize) -> bool
-    ensures { result ≡ (tap_kind n).rules (figures (said.Tap tap label)) }
+#[tactic(auto, unfolding(wire::specs::Kinds::tap_kind, stamp::specs::Parts::parts_at, stamp::specs::Parts::list_of))]
+fn tap_fits(asked: TapRequest, n: usize) -> bool
+    ensures { result ≡ (tap_kind n).rules (figures (tap_says asked)) }
 {
-    if !fits(tap) {
-        return false;
-    }
-    parts_fit(label, n)
+    fits(asked.tap) && parts_fit(asked.label, n)
 }
 
 fn tap_widths() -> [usize; TAP_LINE]
@@ -286,42 +244,35 @@ fn tap_widths() -> [usize; TAP_LINE]
 pub fn read_tap(msg: &[u8], n: usize) -> Result<TapRequest, Refusal>
     ensures { says tap_says result ≡ read_as (tap_kind n) msg.now }
 {
-    if !is_kind(msg, TAP) {
+    let line = read_line(TAP, &tap_widths(), msg)?;
+    let asked = TapRequest {
+        tap: tap_at(&line, FIRST),
+        label: parts_at(&line, TAP_LABEL),
+    };
+    if !tap_fits(asked, n) {
         return Err(Refusal::Bad);
     }
-    let ws = tap_widths();
-    let mut line = [0u64; TAP_LINE];
-    read_fields(&mut line, &ws, msg);
-    let tap = tap_at(&line, FIRST);
-    let label = parts_at(&line, TAP_LABEL);
-    if !tap_fits(tap, label, n) {
-        return Err(Refusal::Bad);
-    }
-    Ok(TapRequest { tap, label })
+    Ok(asked)
 }
 
-pub fn write_tap(tap: Tap, label: Parts, n: usize, out: &mut [u8]) -> Result<usize, Refusal>
-    ensures { Meets (write_as (tap_kind n) (figures (said.Tap tap label)) out.old) result
-        out.new }
+pub fn write_tap(asked: TapRequest, n: usize, out: &mut [u8]) -> Result<usize, Refusal>
+    ensures { Meets (write_as (tap_kind n) (figures (tap_says asked)) out.old) result out.new }
 {
-    if !tap_fits(tap, label, n) {
+    if !tap_fits(asked, n) {
         return Err(Refusal::Bad);
     }
     let mut line = [0u64; TAP_LINE];
-    line[KIND] = TAP as u64;
-    put_tap(&mut line, FIRST, tap);
-    put_parts(&mut line, TAP_LABEL, label);
-    let ws = tap_widths();
-    put_line(&ws, TAP_SIZE, &line, out)
+    line[KIND] = u64::from(TAP);
+    put_tap(&mut line, FIRST, asked.tap);
+    put_parts(&mut line, TAP_LABEL, asked.label);
+    put_line(&tap_widths(), TAP_SIZE, &line, out)
 }
 
-fn question_fits(prompt: u64, label: Parts, n: usize) -> bool
-    ensures { result ≡ (question_kind n).rules (figures (said.Question prompt label)) }
+#[tactic(auto, unfolding(wire::specs::Kinds::question_kind, stamp::specs::Parts::parts_at, stamp::specs::Parts::list_of))]
+fn question_fits(question: Question, n: usize) -> bool
+    ensures { result ≡ (question_kind n).rules (figures (question_says question)) }
 {
-    if !prompt_fits(prompt) {
-        return false;
-    }
-    parts_fit(label, n)
+    prompt_fits(question.prompt) && parts_fit(question.label, n)
 }
 
 fn question_widths() -> [usize; QUESTION_LINE]
@@ -336,55 +287,45 @@ fn question_widths() -> [usize; QUESTION_LINE]
 pub fn read_question(msg: &[u8], n: usize) -> Result<Question, Refusal>
     ensures { says question_says result ≡ read_as (question_kind n) msg.now }
 {
-    if !is_kind(msg, QUESTION) {
+    let line = read_line(QUESTION, &question_widths(), msg)?;
+    let question = Question {
+        prompt: line[FIRST],
+        label: parts_at(&line, QUESTION_LABEL),
+    };
+    if !question_fits(question, n) {
         return Err(Refusal::Bad);
     }
-    let ws = question_widths();
-    let mut line = [0u64; QUESTION_LINE];
-    read_fields(&mut line, &ws, msg);
-    let prompt = line[FIRST];
-    let label = parts_at(&line, QUESTION_LABEL);
-    if !question_fits(prompt, label, n) {
-        return Err(Refusal::Bad);
-    }
-    Ok(Question { prompt, label })
+    Ok(question)
 }
 
-pub fn write_question(prompt: u64, label: Parts, n: usize, out: &mut [u8]) -> Result<usize, Refusal>
-    ensures { Meets (write_as (question_kind n) (figures (said.Question prompt label)) out.old) result
-        out.new }
+pub fn write_question(question: Question, n: usize, out: &mut [u8]) -> Result<usize, Refusal>
+    ensures { Meets (write_as (question_kind n) (figures (question_says question)) out.old) result out.new }
 {
-    if !question_fits(prompt, label, n) {
+    if !question_fits(question, n) {
         return Err(Refusal::Bad);
     }
     let mut line = [0u64; QUESTION_LINE];
-    line[KIND] = QUESTION as u64;
-    line[FIRST] = prompt;
-    put_parts(&mut line, QUESTION_LABEL, label);
-    let ws = question_widths();
-    put_line(&ws, QUESTION_SIZE, &line, out)
+    line[KIND] = u64::from(QUESTION);
+    line[FIRST] = question.prompt;
+    put_parts(&mut line, QUESTION_LABEL, question.label);
+    put_line(&question_widths(), QUESTION_SIZE, &line, out)
 }
 
 // Its fields are judged by refusal 2, not here.
 pub fn read_open(msg: &[u8]) -> Result<Open, Refusal>
     ensures { says open_says result ≡ read_as open_kind msg.now }
 {
-    if !is_kind(msg, OPEN) {
-        return Err(Refusal::Bad);
-    }
-    let mut line = [0u64; OPEN_LINE];
-    read_fields(&mut line, &OPEN_WIDTHS, msg);
+    let line = read_line(OPEN, &OPEN_WIDTHS, msg)?;
     Ok(Open {
         screen: line[FIRST],
         screens: line[SECOND],
     })
 }
 
-pub fn write_open(screen: u64, screens: u64, out: &mut [u8]) -> Result<usize, Refusal>
-    ensures { Meets (write_as open_kind (figures (said.Open screen screens)) out.old) result
-        out.new }
+pub fn write_open(opening: Open, out: &mut [u8]) -> Result<usize, Refusal>
+    ensures { Meets (write_as open_kind (figures (open_says opening)) out.old) result out.new }
 {
-    let line = [OPEN as u64, screen, screens];
+    let line = [u64::from(OPEN), opening.screen, opening.screens];
     put_line(&OPEN_WIDTHS, OPEN_SIZE, &line, out)
 }
 
@@ -400,6 +341,6 @@ pub fn read_send(msg: &[u8]) -> Result<(), Refusal>
 pub fn write_send(out: &mut [u8]) -> Result<usize, Refusal>
     ensures { Meets (write_as send_kind (figures said.Send) out.old) result out.new }
 {
-    let line = [SEND as u64];
+    let line = [u64::from(SEND)];
     put_line(&SEND_WIDTHS, SEND_SIZE, &line, out)
 }

@@ -18,7 +18,7 @@ use lent::{known_of, log_rows, logged_of, screen_of, screens_of};
 use requests::{write_head, write_record};
 use stamp::{Parts, parts_at};
 use tally::unpack;
-use wire::{HEAD_SIZE, RECORD_SIZE, Refusal};
+use wire::{HEAD_SIZE, Head, RECORD_SIZE, Record, Refusal};
 
 // The known stamp.
 fn stamp_of(b: &[u64]) -> Parts
@@ -36,7 +36,13 @@ fn put_head(b: &[u64], m: Parts, out: &mut [u8])
     requires head_long_in_bounds { head_long ≤ length out.old }
     ensures { out.new ≡ with_head (send (book_of b.now)) out.old }
 {
-    let _ = write_head(screen_of(b), screens_of(b), logged_of(b) as u64, m, out);
+    let head = Head {
+        sender: screen_of(b),
+        screens: screens_of(b),
+        count: logged_of(b) as u64,
+        stamp: m,
+    };
+    let _ = write_head(head, out);
 }
 
 // A row's record over the whole of a part, in a message of n screens and stamp m.
@@ -45,9 +51,13 @@ fn put_row(row: &[u64; ROW], n: usize, m: Parts, part: &mut [u8])
     requires t { T (writable (record_kind n (list_of m)) (line_for (record_at row.now))) }
     ensures { part.new ≡ written (record_kind n (list_of m)) (line_for (record_at row.now)) }
 {
-    let label = parts_at(row, LABEL);
-    let tap = unpack(row[BODY]);
-    let _ = write_record(row[ORIGIN], row[NUMBER], label, tap, n, m, part);
+    let entry = Record {
+        origin: row[ORIGIN],
+        number: row[NUMBER],
+        label: parts_at(row, LABEL),
+        tap: unpack(row[BODY]),
+    };
+    let _ = write_record(entry, n, m, part);
 }
 
 // The log's records behind the head.

@@ -1,14 +1,15 @@
 -- Laws: what a reader's and a writer's tests have settled where it returns, for every kind. Assumes nothing.
-use Rattle.std.specs.Prelude.{ℕ, suc, ◌+◌, ◌^◌, ◌≡◌, refl, Bool, true, false, not, ◌&&◌, List, [], ◌∷◌, T, ltb, eqb}
+use Rattle.std.specs.Prelude.{ℕ, suc, ◌+◌, ◌^◌, ◌≡◌, refl, Bool, true, false, not, ◌&&◌, cond, List, [], ◌∷◌, T, ltb, eqb}
 use Rattle.std.specs.Prelude.{length, get_or, Ok, Err}
-use Rattle.std.proofs.Common.{sym, ap, ◌∙◌, eq-eqb, eqb-true}
+use Rattle.std.proofs.Common.{arith, sym, ap, ◌∙◌, eq-eqb, eqb-true}
 use Rattle.std.proofs.Math.Bool.{and-true, and-false}
 use Rattle.std.proofs.lemmas.Bool.{not-true, not-false}
 use Rattle.lists.specs.TestLaws.{and_r}
-use Rattle.numbers.specs.Fields.{fields_fit, put_fields}
+use Rattle.numbers.specs.Fields.{read_fields, fields_fit, put_fields}
+use Rattle.wire.specs.declared.Refusal.{Refusal}
 use Rattle.wire.specs.declared.Refusal.TheVariants.{Bad}
 use Rattle.wire.specs.Kinds.{Kind, widths, body_by, is_long, shaped}
-use Rattle.wire.specs.Read.{line_of, readable, read_as}
+use Rattle.wire.specs.Read.{line_of, line_as, readable, read_as}
 use Rattle.wire.specs.Write.{Written, Output, Meets, put_line, writable, written, write_as}
 
 -- what a test of a call's answer tells of what the call promises
@@ -29,6 +30,25 @@ shaped-long k n bytes b e =
     tested : (p q : Bool) → (p && q) ≡ true → q ≡ true
     tested true q h = h
     tested false q h = cc
+
+-- a line that was read, and one that was not
+pub line-told : (k : ℕ) (ws bytes line : List ℕ) → Ok line ≡ line_as k ws bytes
+    → (shaped k bytes ≡ true) × (line ≡ read_fields ws bytes)
+unfolding line_as
+line-told k ws bytes line = go (shaped k bytes)
+  where
+    go : (c : Bool) → Ok line ≡ cond c (Ok (read_fields ws bytes)) (Err Bad) → (c ≡ true) × (line ≡ read_fields ws bytes)
+    go true e = (refl, cc)
+    go false e = let z : ◌≡◌ {A = ℕ} 0 1 = cc in absurd (omega arith)
+
+pub line-refused : (k : ℕ) (ws bytes : List ℕ) (r : Refusal) → Err r ≡ line_as k ws bytes
+    → (shaped k bytes ≡ false) × (r ≡ Bad)
+unfolding line_as
+line-refused k ws bytes r = go (shaped k bytes)
+  where
+    go : (c : Bool) → Err r ≡ cond c (Ok (read_fields ws bytes)) (Err Bad) → (c ≡ false) × (r ≡ Bad)
+    go true e = let z : ◌≡◌ {A = ℕ} 0 1 = cc in absurd (omega arith)
+    go false e = (refl, cc)
 
 -- as many values as widths
 pub fit_length : (ws vs : List ℕ) → T (fields_fit ws vs) → length vs ≡ length ws

@@ -5,11 +5,12 @@ ghost use Rattle.std.specs.Prelude.{◌≡◌};
 ghost use Rattle.stamp.specs.Stamp.{total};
 ghost use Rattle.wire.specs.Kinds.{body_by, shaped};
 ghost use Rattle.wire.specs.Refusal.{table_number};
+ghost use Rattle.wire.specs.Read.{IsWidths, line_as};
 ghost use Rattle.wire.specs.Requests.{reply_room};
 ghost use Rattle.wire.specs.Write.{Meets, put_line};
 
 use limits::{LOG_ROOM, PARTS};
-use numbers::{fields_fit, put_fields};
+use numbers::{fields_fit, put_fields, read_fields};
 use stamp::Parts;
 use tally::Tap;
 
@@ -231,6 +232,20 @@ pub fn is_kind(msg: &[u8], kind: u8) -> bool
         return false;
     };
     msg.len() - 1 == long
+}
+
+// The row of numbers that the bytes hold, one for each width; refused with 1 where they are not of this kind and of its
+// length.
+pub fn read_line<const N: usize>(kind: u8, ws: &[usize; N], msg: &[u8]) -> Result<[u64; N], Refusal>
+    requires { IsWidths kind ws.now }
+    ensures { result ≡ line_as kind ws.now msg.now }
+{
+    if !is_kind(msg, kind) {
+        return Err(Refusal::Bad);
+    }
+    let mut line = [0u64; N];
+    read_fields(&mut line, ws, msg);
+    Ok(line)
 }
 
 // The row of numbers at the front of out: refused with 1 where one does not fit its width, then with 12 where out is

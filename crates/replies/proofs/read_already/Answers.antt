@@ -1,37 +1,28 @@
 -- `replies::read_already` meets its contract. Assumes nothing.
-use Rattle.wire.specs.Says as said
-use mathlib.Core.Path.{◌≡◌, refl, ap, ◌∙◌}
-use mathlib.Core.Bool.{true}
-use Rattle.std.specs.Prelude.{Ok}
+use mathlib.Core.Path.{refl, ap, ◌∙◌}
 use native.Mathlib.Omega.{arith}
-use Rattle.stamp.specs.Stamp.{total}
-use Rattle.limits.specs.KindNumbers.{already_number}
-use Rattle.wire.specs.Kinds.{shaped, body_by, already_body, already_kind}
+use Rattle.std.specs.Prelude.{Ok}
+use Rattle.wire.specs.Says as said
+use Rattle.std.proofs.lemmas.Result.{err_from_is_err_and}
+use Rattle.wire.specs.Kinds.{body_by, already_kind}
 use Rattle.wire.specs.Read.{line_of}
-use Rattle.wire.proofs.Returns.{failed, passed, shaped-long, not-shaped, kept}
+use Rattle.wire.proofs.Returns.{line-told, line-refused, not-shaped, kept}
 use Rattle.replies.proofs.read_already.Goals as goal
 
-pub returns-then-not-is_kind : goal.returns-then-not-is_kind
-unfolding already_kind
-returns-then-not-is_kind c = not-shaped already_kind _ (failed c.is_kind.ensures c.if-not-is_kind.true-raw)
-
-pub read_fields-requires : goal.read_fields-requires
+pub read_line-requires : goal.read_line-requires
 unfolding body_by
-read_fields-requires c =
-    let shape : shaped already_number c.args.msg.now ≡ true =
-    passed c.is_kind.ensures c.if-not-is_kind.false-raw in
-    let bytes = c.args.msg.now in
-    let long = shaped-long already_number (total already_body) bytes refl (shape) in
-    rw c.stamp_widths-ws.ensures (record {
-      v_len = refl;
-      ws_in_bounds = omega (arith, long);
-      t = tt;
-    })
+read_line-requires c = rw c.stamp_widths.ensures (omega arith, (omega arith, record { long = refl; some = omega arith; narrow = tt }))
+
+pub returns-in_err-line : goal.returns-in_err-line
+unfolding already_kind
+returns-in_err-line c =
+    let told = line-refused _ _ _ _ c.in_err-line.ensures in
+    let p = err_from_is_err_and c.from_residual.result c.from_residual.ensures.1 in
+    rw (p.1, p.2, told.1) (not-shaped already_kind _ told.0)
 
 pub returns : goal.returns
 unfolding already_kind line_of
 returns c =
-    let shape : shaped already_number c.args.msg.now ≡ true =
-    passed c.is_kind.ensures c.if-not-is_kind.false-raw in
+    let told = line-told _ _ _ _ c.in_ok-line.ensures in
     ap (λ s. Ok (said.Already s)) c.parts_at.ensures
-    ∙ kept already_kind _ _ (shape) (rw c.stamp_widths-ws.ensures at c.read_fields.ensures) refl
+    ∙ kept already_kind _ _ told.0 (rw c.stamp_widths.ensures at told.1) refl

@@ -6,4 +6,4 @@ use Rattle.replies.proofs.write_gossip_taken.Goals as goal
 
 pub returns : goal.returns
 unfolding gossip_taken_kind
-returns c = put gossip_taken_kind _ _ refl _ _ refl c.put_line.ensures
+returns c = put gossip_taken_kind _ _ refl _ _ refl (rw c.from.ensures at c.put_line.ensures)

@@ -11,4 +11,4 @@ returns-then-not-in_table c = broken refusal_kind _ _ refl (failed c.in_table.en
 pub returns : goal.returns
 unfolding refusal_kind
 returns c = put refusal_kind _ _ refl _ _ (passed c.in_table.ensures c.if-not-in_table.false-raw)
-    c.put_line.ensures
+    (rw c.from.ensures at c.put_line.ensures)

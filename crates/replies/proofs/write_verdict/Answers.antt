@@ -12,10 +12,10 @@ returns-then-not-verdict_fits c = broken verdict_kind _ _ refl
     (failed c.verdict_fits.ensures c.if-not-verdict_fits.true-raw)
 
 pub put_line-requires : goal.put_line-requires
-put_line-requires c = rw c.verdict_widths-ws.ensures refl
+put_line-requires c = rw c.verdict_widths.ensures refl
 
 pub returns : goal.returns
 unfolding verdict_kind list_of patch
 returns c =
     put verdict_kind _ _ refl _ _ (passed c.verdict_fits.ensures c.if-not-verdict_fits.false-raw)
-    (rw (c.verdict_widths-ws.ensures, c.put_parts.ensures) at c.put_line.ensures)
+    (rw (c.verdict_widths.ensures, c.put_parts.ensures, c.from.ensures) at c.put_line.ensures)

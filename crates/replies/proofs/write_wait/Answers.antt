@@ -6,4 +6,4 @@ use Rattle.replies.proofs.write_wait.Goals as goal
 
 pub returns : goal.returns
 unfolding wait_kind
-returns c = put wait_kind _ _ refl _ _ refl c.put_line.ensures
+returns c = put wait_kind _ _ refl _ _ refl (rw c.from.ensures at c.put_line.ensures)

@@ -13,9 +13,9 @@ pub returns-then-not-label_fits : goal.returns-then-not-label_fits
 returns-then-not-label_fits c =
     let s = c.args in
     let f = failed c.label_fits.ensures c.if-not-label_fits.true-raw in
-    let e = rw c.list_of-l.ensures at f in
+    let e = rw c.list_of-label.ensures at f in
     rw (
-      rules-left s.n s.origin s.number s.label s.m s.tap
+      rules-left s.n s.entry.origin s.entry.number s.entry.label s.m s.entry.tap
           (passed c.fits.ensures c.if-not-fits.false-raw),
       e,
     )
@@ -24,9 +24,9 @@ pub returns : goal.returns
 returns c =
     let s = c.args in
     let f = passed c.label_fits.ensures c.if-not-label_fits.false-raw in
-    let e = rw c.list_of-l.ensures at f in
+    let e = rw c.list_of-label.ensures at f in
     rw (
-      rules-left s.n s.origin s.number s.label s.m s.tap
+      rules-left s.n s.entry.origin s.entry.number s.entry.label s.m s.entry.tap
           (passed c.fits.ensures c.if-not-fits.false-raw),
       e,
       c.part_of.ensures,

@@ -11,10 +11,10 @@ unfolding head_kind
 returns-then-not-head_fits c = broken head_kind _ _ refl (failed c.head_fits.ensures c.if-not-head_fits.true-raw)
 
 pub put_line-requires : goal.put_line-requires
-put_line-requires c = rw c.head_widths-ws.ensures refl
+put_line-requires c = rw c.head_widths.ensures refl
 
 pub returns : goal.returns
 unfolding head_kind list_of patch
 returns c =
     put head_kind _ _ refl _ _ (passed c.head_fits.ensures c.if-not-head_fits.false-raw)
-    (rw (c.head_widths-ws.ensures, c.put_parts.ensures) at c.put_line.ensures)
+    (rw (c.head_widths.ensures, c.put_parts.ensures, c.from.ensures) at c.put_line.ensures)

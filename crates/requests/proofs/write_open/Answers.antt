@@ -6,4 +6,4 @@ use Rattle.requests.proofs.write_open.Goals as goal
 
 pub returns : goal.returns
 unfolding open_kind
-returns c = put open_kind _ _ refl _ _ refl c.put_line.ensures
+returns c = put open_kind _ _ refl _ _ refl (rw c.from.ensures at c.put_line.ensures)

@@ -12,10 +12,10 @@ returns-then-not-question_fits c = broken (question_kind _) _ _ refl
     (failed c.question_fits.ensures c.if-not-question_fits.true-raw)
 
 pub put_line-requires : goal.put_line-requires
-put_line-requires c = rw c.question_widths-ws.ensures refl
+put_line-requires c = rw c.question_widths.ensures refl
 
 pub returns : goal.returns
 unfolding question_kind list_of patch
 returns c =
     put (question_kind _) _ _ refl _ _ (passed c.question_fits.ensures c.if-not-question_fits.false-raw)
-    (rw (c.question_widths-ws.ensures, c.put_parts.ensures) at c.put_line.ensures)
+    (rw (c.question_widths.ensures, c.put_parts.ensures, c.from.ensures) at c.put_line.ensures)

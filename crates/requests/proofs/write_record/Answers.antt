@@ -12,11 +12,11 @@ returns-then-not-record_fits c = broken (record_kind _ _) _ _ refl
     (failed c.record_fits.ensures c.if-not-record_fits.true-raw)
 
 pub put_line-requires : goal.put_line-requires
-put_line-requires c = rw c.record_widths-ws.ensures refl
+put_line-requires c = rw c.record_widths.ensures refl
 
 pub returns : goal.returns
 unfolding record_kind list_of patch
 returns c =
     put (record_kind _ _) _ _ refl _ _ (passed c.record_fits.ensures c.if-not-record_fits.false-raw)
-    (rw (c.record_widths-ws.ensures, c.put_tap.ensures, c.put_parts.ensures) at
+    (rw (c.record_widths.ensures, c.put_tap.ensures, c.put_parts.ensures, c.from.ensures) at
     c.put_line.ensures)

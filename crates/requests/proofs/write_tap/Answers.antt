@@ -11,10 +11,10 @@ unfolding tap_kind
 returns-then-not-tap_fits c = broken (tap_kind _) _ _ refl (failed c.tap_fits.ensures c.if-not-tap_fits.true-raw)
 
 pub put_line-requires : goal.put_line-requires
-put_line-requires c = rw c.tap_widths-ws.ensures refl
+put_line-requires c = rw c.tap_widths.ensures refl
 
 pub returns : goal.returns
 unfolding tap_kind list_of patch
 returns c =
     put (tap_kind _) _ _ refl _ _ (passed c.tap_fits.ensures c.if-not-tap_fits.false-raw)
-    (rw (c.tap_widths-ws.ensures, c.put_parts.ensures, c.put_tap.ensures) at c.put_line.ensures)
+    (rw (c.tap_widths.ensures, c.put_parts.ensures, c.put_tap.ensures, c.from.ensures) at c.put_line.ensures)
