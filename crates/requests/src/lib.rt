@@ -268,7 +268,6 @@ pub fn write_tap(asked: TapRequest, n: usize, out: &mut [u8]) -> Result<usize, R
     put_line(&tap_widths(), TAP_SIZE, &line, out)
 }
 
-#[tactic(auto, unfolding(wire::specs::Kinds::question_kind, stamp::specs::Parts::parts_at, stamp::specs::Parts::list_of))]
 fn question_fits(question: Question, n: usize) -> bool
     ensures { result ≡ (question_kind n).rules (figures (question_says question)) }
 {

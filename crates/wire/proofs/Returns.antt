@@ -1,6 +1,6 @@
 -- Laws: what a reader's and a writer's tests have settled where it returns, for every kind. Assumes nothing.
-use Rattle.std.specs.Prelude.{ℕ, suc, ◌+◌, ◌^◌, ◌≡◌, refl, Bool, true, false, not, ◌&&◌, cond, List, [], ◌∷◌, T, ltb, eqb}
-use Rattle.std.specs.Prelude.{length, get_or, Ok, Err}
+use Rattle.std.specs.Prelude.{ℕ, suc, ◌+◌, ◌^◌, ◌≡◌, refl, Bool, true, false, not, ◌&&◌, cond, List, [], ◌∷◌, T, ltb}
+use Rattle.std.specs.Prelude.{eqb, length, get_or, Ok, Err}
 use Rattle.std.proofs.Common.{arith, sym, ap, ◌∙◌, eq-eqb, eqb-true}
 use Rattle.std.proofs.Math.Bool.{and-true, and-false}
 use Rattle.std.proofs.lemmas.Bool.{not-true, not-false}
@@ -37,7 +37,8 @@ pub line-told : (k : ℕ) (ws bytes line : List ℕ) → Ok line ≡ line_as k w
 unfolding line_as
 line-told k ws bytes line = go (shaped k bytes)
   where
-    go : (c : Bool) → Ok line ≡ cond c (Ok (read_fields ws bytes)) (Err Bad) → (c ≡ true) × (line ≡ read_fields ws bytes)
+    go : (c : Bool) → Ok line ≡ cond c (Ok (read_fields ws bytes)) (Err Bad)
+        → (c ≡ true) × (line ≡ read_fields ws bytes)
     go true e = (refl, cc)
     go false e = let z : ◌≡◌ {A = ℕ} 0 1 = cc in absurd (omega arith)
 

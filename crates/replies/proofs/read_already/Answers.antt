@@ -11,7 +11,8 @@ use Rattle.replies.proofs.read_already.Goals as goal
 
 pub read_line-requires : goal.read_line-requires
 unfolding body_by
-read_line-requires c = rw c.stamp_widths.ensures (omega arith, (omega arith, record { long = refl; some = omega arith; narrow = tt }))
+read_line-requires c =
+    rw c.stamp_widths.ensures (omega arith, (omega arith, record { long = refl; some = omega arith; narrow = tt }))
 
 pub returns-in_err-line : goal.returns-in_err-line
 unfolding already_kind

@@ -9,7 +9,8 @@ use Rattle.replies.proofs.read_verdict.Goals as goal
 
 pub read_line-requires : goal.read_line-requires
 unfolding body_by
-read_line-requires c = rw c.verdict_widths.ensures (omega arith, (omega arith, record { long = refl; some = omega arith; narrow = tt }))
+read_line-requires c =
+    rw c.verdict_widths.ensures (omega arith, (omega arith, record { long = refl; some = omega arith; narrow = tt }))
 
 pub returns-in_err-line : goal.returns-in_err-line
 unfolding verdict_kind

@@ -10,7 +10,8 @@ use Rattle.requests.proofs.read_head.Goals as goal
 
 pub read_line-requires : goal.read_line-requires
 unfolding body_by
-read_line-requires c = rw c.head_widths.ensures (omega arith, (omega arith, record { long = refl; some = omega arith; narrow = tt }))
+read_line-requires c =
+    rw c.head_widths.ensures (omega arith, (omega arith, record { long = refl; some = omega arith; narrow = tt }))
 
 pub returns-in_err-line : goal.returns-in_err-line
 unfolding head_kind
