@@ -41,10 +41,6 @@ use Rattle.answer.specs.Answer.{long_in}
 use Rattle.answer.specs.AnswerLaws.{short, front, unsound-says}
 
 -- no bytes have kind 0
-pub no_kind : (bytes : List ℕ) → length bytes ≡ 0 → 0 ≡ kind_in bytes
-no_kind [] e = refl
-no_kind (x ∷ bytes) e = absurd (omega arith)
-
 -- what is owed for what a message comes to
 pub same-done : {d e : Done} (ws out : List ℕ) (long : ℕ) (words bytes : List ℕ) → d ≡ e
     → Answers (answer_by e ws out) long words bytes → Answers (answer_by d ws out) long words bytes

@@ -22,9 +22,7 @@ use replies::{
 use requests::{read_open, read_send};
 use soundness::sound;
 use tap_step::take_tap;
-use wire::{
-    GOSSIP_TAKEN_BODY, HEAD, KIND_SIZE, QUESTION, REFUSAL_BODY, Refusal, TAKEN_BODY, TAP, room_of,
-};
+use wire::{GOSSIP_ROOM, HEAD, KIND_SIZE, QUESTION, REFUSAL_BODY, Refusal, TAP, TAP_ROOM, room_of};
 
 pub fn speak(reply: Reply, out: &mut [u8]) -> Result<usize, Refusal>
     ensures { Meets (say_on (spoken reply) out.old) result out.new }
@@ -39,24 +37,21 @@ pub fn speak(reply: Reply, out: &mut [u8]) -> Result<usize, Refusal>
     }
 }
 
-// The longest replies to gossip and a tap, and to bytes that are no request.
-const GOSSIP_ROOM: usize = KIND_SIZE + GOSSIP_TAKEN_BODY;
-
-const TAP_ROOM: usize = KIND_SIZE + TAKEN_BODY;
-
+// The longest reply to bytes that are no request.
 const REFUSAL_ROOM: usize = KIND_SIZE + REFUSAL_BODY;
 
 // The byte of kind, 0 where there is none.
 fn kind_of(msg: &[u8]) -> u8
     ensures { result ≡ kind_in msg.now }
 {
-    if msg.len() == 0 {
-        return 0;
+    match msg {
+        [kind, ..] => *kind,
+        [] => 0,
     }
-    msg[0]
 }
 
-// A reply at the front of an output, and how long it is; 0 where the output is shorter, which then stays.
+// A reply at the front of an output, and how long it is; 0 where the output is shorter, which then stays. Kept: a 0,
+// since C's `consent_answer` gives it.
 fn put(reply: Reply, out: &mut [u8]) -> usize
     requires { T (sayable (spoken reply)) }
     ensures value { result ≡ long_in (put_front (bytes_for (spoken reply)) out.old).answer }

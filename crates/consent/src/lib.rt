@@ -16,7 +16,7 @@ use lent::BOOK;
 use permission::permission;
 use replies::reply_kind;
 
-// No refusal has this number.
+// No refusal has this number. Kept: a number, since C's `consent_open` gives it.
 const OPENED: u64 = 0;
 
 // The length of a lent book, in words.

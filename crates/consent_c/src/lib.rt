@@ -1,5 +1,5 @@
 // The static library that a host links (include/consent.h): each export calls the function of the same name in the
-// crate consent, under the same clauses.
+// crate consent, under the same clauses. Kept: twins of consent's six, since C calls them by these names.
 #![tactic(auto)]
 
 ghost use Rattle.std.specs.Prelude.{◌≡◌};

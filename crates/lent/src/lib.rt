@@ -221,7 +221,8 @@ fn low_of(b: &[u64]) -> [u64; PARTS]
     lowest(&known_of(b), rows)
 }
 
-// A stamp merged into the one that stands from a up to e.
+// A stamp merged into the one that stands from a up to e. Kept, as the others at any bounds below: a function beside
+// `merge_value`, so that its proof knows no number of the layout.
 fn merge_at(b: &mut [u64], a: usize, e: usize, s: &[u64])
     requires { (a ≤ e) × (e ≤ length b.old) × (length s.now ≡ e - a) }
     ensures { b.new

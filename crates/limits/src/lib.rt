@@ -30,11 +30,12 @@ pub const PROMPT_COUNT: u64 = 64;
 
 pub const SHOWINGS: u64 = 65536;
 
-// The two answers.
+// The two answers. Kept: numbers, since `tally::tap_fits` promises of any number, and is false of the others.
 pub const ACCEPT: u64 = 1;
 
 pub const DECLINE: u64 = 2;
 
+// The limits as calls. Kept: three that differ in a constant, so that a caller's goals have its name and no number.
 pub fn most_screens() -> u64
     ensures { result ≡ most }
 {

@@ -61,7 +61,8 @@ const GOSSIP_TAKEN_WIDTHS: [usize; GOSSIP_TAKEN_LINE] = [1, 2, 2];
 
 const GOSSIP_TAKEN_SIZE: usize = KIND_SIZE + GOSSIP_TAKEN_BODY;
 
-// The refusals of document 01's table: ten is not used.
+// The refusals of document 01's table: ten is not used. Kept: numbers, since `write_refusal` takes any and promises to
+// refuse what the table has not.
 const FIRST_REFUSAL: u64 = 1;
 
 const BEFORE_TEN: u64 = 9;
@@ -70,7 +71,7 @@ const AFTER_TEN: u64 = 11;
 
 const LAST_REFUSAL: u64 = 12;
 
-// No reply has this kind.
+// No reply has this kind. Kept: a number, since C's `consent_reply_kind` gives it.
 const NO_REPLY: u8 = 0;
 
 // A line's widths, for its reader and its writer alike: a stamp's fill the line, the others are set over them.

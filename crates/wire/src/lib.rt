@@ -116,7 +116,8 @@ const STAMP_BODY: usize = PARTS * PART_WIDTH;
 
 const TAP_FIELDS_BODY: usize = 9;
 
-// The kinds, each with its body's length.
+// The kinds, each with its body's length. Kept: numbers, since `body_of` promises of every byte, by the `match` that
+// document 01 names.
 pub const HEAD: u8 = 1;
 
 pub const HEAD_BODY: usize = 4 + STAMP_BODY;
@@ -197,9 +198,9 @@ pub fn body_of(kind: u8) -> Result<usize, Refusal>
 }
 
 // The longest replies to gossip, a tap and a question.
-const GOSSIP_ROOM: usize = KIND_SIZE + GOSSIP_TAKEN_BODY;
+pub const GOSSIP_ROOM: usize = KIND_SIZE + GOSSIP_TAKEN_BODY;
 
-const TAP_ROOM: usize = KIND_SIZE + TAKEN_BODY;
+pub const TAP_ROOM: usize = KIND_SIZE + TAKEN_BODY;
 
 const QUESTION_ROOM: usize = KIND_SIZE + VERDICT_BODY;
 
@@ -220,18 +221,10 @@ pub fn room_of(kind: u8) -> Option<usize>
 pub fn is_kind(msg: &[u8], kind: u8) -> bool
     ensures { result ≡ shaped kind msg.now }
 {
-    if msg.len() == 0 {
-        return false;
+    match msg {
+        [first, body @ ..] => *first == kind && body_of(kind) == Ok(body.len()),
+        [] => false,
     }
-    let first = msg[0];
-    if first != kind {
-        return false;
-    }
-    let body = body_of(kind);
-    let Ok(long) = body else {
-        return false;
-    };
-    msg.len() - 1 == long
 }
 
 // The row of numbers that the bytes hold, one for each width; refused with 1 where they are not of this kind and of its
