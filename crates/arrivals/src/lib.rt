@@ -2,8 +2,7 @@
 // region.
 #![tactic(auto)]
 
-ghost use Rattle.std.specs.Prelude.{◌≡◌, ◌+◌, ◌*◌, ◌≤◌, ◌<◌, length};
-ghost use Rattle.std.specs.Bool.{then_some};
+ghost use Rattle.std.specs.Prelude.{◌≡◌, ◌+◌, ◌*◌, ◌≤◌, ◌<◌, length, cond, Ok, Err};
 ghost use Rattle.stamp.specs.Parts.{list_of};
 ghost use Rattle.ledger.specs.Log.{unknowns};
 ghost use Rattle.ledger.specs.Record.{is_known};
@@ -35,17 +34,11 @@ fn row_for(msg: &[u8], i: usize, n: usize, m: Parts) -> [u64; ROW]
 
 // One pass over the records: how far the numbers of each origin go without a gap from those reached, written over them.
 // Gives how many records are not known under a stamp.
-fn survey(
-    msg: &[u8],
-    count: usize,
-    n: usize,
-    m: Parts,
-    known: &[u64; PARTS],
-    reached: &mut [u64; PARTS],
-) -> usize
+fn survey(msg: &[u8], count: usize, n: usize, m: Parts, known: &[u64], reached: &mut [u64]) -> usize
     requires head { Head msg.now n (list_of m) }
     requires msg_value { count_in msg.now ≡ count }
-    ensures reached_after { reached.new ≡ climb reached.old (records_in msg.now) }
+    ensures reached_after { (reached.new ≡ climb reached.old (records_in msg.now))
+        × (length reached.new ≡ length reached.old) }
     ensures value { (result ≡ length (unknowns known.now (records_in msg.now))) × (result ≤ count) }
 {
     let mut new: usize = 0;
@@ -57,18 +50,29 @@ fn survey(
     new
 }
 
-// How many records are new under a known stamp; nothing where one that m counts is neither known nor there.
-pub fn look_at(msg: &[u8], count: usize, n: usize, m: Parts, known: &[u64; PARTS]) -> Option<usize>
+// How many records are new under a known stamp: an error where one that m counts is neither known nor there.
+pub fn look_at(
+    msg: &[u8],
+    count: usize,
+    n: usize,
+    m: Parts,
+    known: &[u64; PARTS],
+) -> Result<usize, usize>
     requires head { Head msg.now n (list_of m) }
     requires msg_value { count_in msg.now ≡ count }
     requires n_bound { n ≤ stamp_long }
-    ensures value { result ≡ then_some (holds_all n known.now (list_of m) (records_in msg.now))
-        (length (unknowns known.now (records_in msg.now))) }
+    ensures value { result ≡ cond (holds_all n known.now (list_of m) (records_in msg.now))
+        (Ok (length (unknowns known.now (records_in msg.now))))
+        (Err (length (unknowns known.now (records_in msg.now)))) }
     ensures few { length (unknowns known.now (records_in msg.now)) ≤ count }
 {
     let mut reached = *known;
     let new = survey(msg, count, n, m, known, &mut reached);
-    first_at_most(&list_of(m), &reached, n).then_some(new)
+    if first_at_most(&list_of(m), &reached, n) {
+        Ok(new)
+    } else {
+        Err(new)
+    }
 }
 
 // The records that are not known under a stamp, merged into the first rows of the log's region over a gap of as many
@@ -82,7 +86,7 @@ pub fn merge_new(
     count: usize,
     n: usize,
     m: Parts,
-    known: &[u64; PARTS],
+    known: &[u64],
 )
     requires head { Head msg.now n (list_of m) }
     requires msg_value { count_in msg.now ≡ count }

@@ -40,11 +40,11 @@ pub fn rows_of<const N: usize>(words: &[u64], count: usize) -> &[[u64; N]]
 
 // Soundness asks this of each row up to five times, so the stamp's part is looked up here and not by a call.
 #[tactic(auto, unfolding(ledger::specs::Record::is_known, ledger::specs::Record::knows))]
-pub fn is_known(row: &[u64; ROW], s: &[u64; PARTS]) -> bool
+pub fn is_known(row: &[u64; ROW], s: &[u64]) -> bool
     ensures { result ≡ is_known s.now (record_at row.now) }
 {
     let origin = row[ORIGIN] as usize;
-    if origin < PARTS {
+    if origin < s.len() {
         row[NUMBER] <= s[origin]
     } else {
         row[NUMBER] == 0
@@ -60,7 +60,7 @@ pub fn is_applied(row: &[u64; ROW], s: &[u64; PARTS]) -> bool
 
 // Known, and not applied under the ready stamp.
 #[tactic(auto, unfolding(ledger::specs::Record::is_waiting))]
-fn is_waiting(row: &[u64; ROW], known: &[u64; PARTS], ready: &[u64; PARTS]) -> bool
+fn is_waiting(row: &[u64; ROW], known: &[u64], ready: &[u64; PARTS]) -> bool
     ensures { result ≡ is_waiting known.now ready.now (record_at row.now) }
 {
     is_known(row, known) && !is_applied(row, ready)
@@ -68,7 +68,7 @@ fn is_waiting(row: &[u64; ROW], known: &[u64; PARTS], ready: &[u64; PARTS]) -> b
 
 // Whether the record is applied under the ready stamp and known everywhere: `low` is the table's lowest stamp.
 #[tactic(auto, unfolding(crate::specs::Lowest::goes_by, ledger::specs::Record::is_known, ledger::specs::Record::knows))]
-pub fn goes(row: &[u64; ROW], ready: &[u64; PARTS], low: &[u64; PARTS]) -> bool
+pub fn goes(row: &[u64; ROW], ready: &[u64; PARTS], low: &[u64]) -> bool
     ensures { result ≡ goes_by ready.now low.now (record_at row.now) }
 {
     is_applied(row, ready) && is_known(row, low)
@@ -87,9 +87,9 @@ fn row_fits(row: &[u64; ROW], n: usize) -> bool
 fn row_sound(
     row: &[u64; ROW],
     n: usize,
-    known: &[u64; PARTS],
+    known: &[u64],
     ready: &[u64; PARTS],
-    low: &[u64; PARTS],
+    low: &[u64],
     value: &[u64; PARTS],
 ) -> bool
     ensures { result ≡ row_sound n known.now ready.now low.now value.now (record_at row.now) }
@@ -125,9 +125,9 @@ pub fn lowest(s: &[u64; PARTS], table: &[[u64; PARTS]]) -> [u64; PARTS]
 pub fn rows_sound(
     rows: &[[u64; ROW]],
     n: usize,
-    known: &[u64; PARTS],
+    known: &[u64],
     ready: &[u64; PARTS],
-    low: &[u64; PARTS],
+    low: &[u64],
     value: &[u64; PARTS],
 ) -> bool
     ensures { result ≡ every (λ row. row_sound n known.now ready.now low.now value.now (record_at row)) rows.now }
@@ -161,12 +161,12 @@ fn raise(reached: u64, q: u64) -> u64
     }
 }
 
-// An origin past the stamp's parts raises none.
-pub fn climb_row(row: &[u64; ROW], reached: &mut [u64; PARTS])
-    ensures { reached.new ≡ climbed reached.old (record_at row.now) }
+// An origin past what is lent raises none.
+pub fn climb_row(row: &[u64; ROW], reached: &mut [u64])
+    ensures { (reached.new ≡ climbed reached.old (record_at row.now)) × (length reached.new ≡ length reached.old) }
 {
     let origin = row[ORIGIN] as usize;
-    if origin < PARTS {
+    if origin < reached.len() {
         reached[origin] = raise(reached[origin], row[NUMBER]);
     }
 }
@@ -182,8 +182,8 @@ fn climb_rows(rows: &[[u64; ROW]], reached: &mut [u64; PARTS])
 }
 
 // Whether the first n parts of a are at most those of b.
-pub fn first_at_most(a: &[u64; PARTS], b: &[u64; PARTS], n: usize) -> bool
-    requires { n ≤ stamp_long }
+pub fn first_at_most(a: &[u64], b: &[u64], n: usize) -> bool
+    requires { (n ≤ length a.now) × (n ≤ length b.now) }
     ensures { result ≡ all_below n (λ k. leb (part a.now k) (part b.now k)) }
 {
     for k in (0..n).rev() {
@@ -206,7 +206,7 @@ pub fn all_held(rows: &[[u64; ROW]], n: usize, known: &[u64; PARTS], low: &[u64;
 }
 
 // How many records wait.
-pub fn count_waiting(rows: &[[u64; ROW]], known: &[u64; PARTS], ready: &[u64; PARTS]) -> usize
+pub fn count_waiting(rows: &[[u64; ROW]], known: &[u64], ready: &[u64; PARTS]) -> usize
     ensures { (result ≡ length (waiting_in known.now ready.now (records_of rows.now)))
         × (result ≤ length rows.now) }
 {

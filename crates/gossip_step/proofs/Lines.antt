@@ -6,8 +6,7 @@ use mathlib.Core.Logic.{◌≢◌}
 use mathlib.Core.Bool.{Bool, true, false}
 use mathlib.Core.List.{List}
 use mathlib.Core.Option.{none, some}
-use Rattle.std.specs.Prelude.{None, Some}
-use Rattle.std.specs.Bool.{then_some}
+use Rattle.std.specs.Prelude.{Ok, Err, cond}
 use borrow.Author.Tests.{lt-ltb, le-ltb}
 use lib.Dec.{T}
 use lib.ListN.{length}
@@ -32,14 +31,14 @@ use Rattle.gossip_step.specs.RefusalLaws.{stamp-stops, records_stop, unstopped, 
 use Rattle.gossip_step.specs.Heard.{Heard}
 use Rattle.gossip_step.proofs.Message.{sender_is, screens_is, stamp_is, message-fits, records_are}
 
--- what a look at the records says that gives a number, or none
-pub told : (whole : Bool) (new k : ℕ) → then_some whole new ≡ Some k → (whole ≡ true) × (k ≡ new)
+-- what a look at the records says where all are known or there, and where one is not
+pub told : (whole : Bool) (new k : ℕ) → cond whole (Ok new) (Err new) ≡ Ok k → (whole ≡ true) × (k ≡ new)
 told true new k e = (refl, cc)
 told false new k e = absurd (cc)
 
-pub untold : (whole : Bool) (new : ℕ) → then_some whole new ≡ None → whole ≡ false
-untold true new e = absurd (cc)
-untold false new e = refl
+pub untold : (whole : Bool) (new k : ℕ) → cond whole (Ok new) (Err new) ≡ Err k → whole ≡ false
+untold true new k e = absurd (cc)
+untold false new k e = refl
 
 module _ (ws bytes : List ℕ) (j n count : ℕ) (m : Stamp) (w : T (lawful ws)) (h : Heard bytes j n count m) where
   sound-now : T (sound (book_of ws))

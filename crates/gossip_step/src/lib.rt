@@ -118,7 +118,7 @@ fn merge_at(
     count: usize,
     n: usize,
     m: Parts,
-    known: &[u64; PARTS],
+    known: &[u64],
 )
     requires a_le_e { (a ≤ e) × (e ≤ length b.old) × ((logged + new) * row_long ≤ e - a) }
     requires coming { Coming msg.now n count (list_of m) known.now new }
@@ -139,7 +139,7 @@ pub fn take_new(
     count: usize,
     n: usize,
     m: Parts,
-    known: &[u64; PARTS],
+    known: &[u64],
 )
     requires held { Held b.old }
     requires coming { Coming msg.now n count (list_of m) known.now new }
@@ -210,7 +210,7 @@ fn stop_records(b: &[u64], msg: &[u8], head: Head) -> Result<Incoming, Reply>
     ensures { StopsGossip (book_of b.now) (message_of msg.now) head result }
 {
     let known = known_of(b);
-    let Some(new) = look_at(
+    let Ok(new) = look_at(
         msg,
         head.count as usize,
         head.screens as usize,

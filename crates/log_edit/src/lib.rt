@@ -65,7 +65,7 @@ pub fn put_one(r: &mut [u64], count: usize, row: &[u64; ROW])
 }
 
 // Whether the i-th row may go.
-fn goes_at(r: &[u64], i: usize, ready: &[u64; PARTS], low: &[u64; PARTS]) -> bool
+fn goes_at(r: &[u64], i: usize, ready: &[u64; PARTS], low: &[u64]) -> bool
     requires { i * row_long + row_long ≤ length r.now }
     ensures { result ≡ goes_by ready.now low.now (row_record r.now (i * row_long)) }
 {
@@ -92,7 +92,7 @@ fn clear(r: &mut [u64], from: usize, to: usize)
 
 // Of the first rows those that may go dropped, the others closed up in their order, and zeros behind them. Gives how
 // many stay.
-pub fn drop_rows(r: &mut [u64], count: usize, ready: &[u64; PARTS], low: &[u64; PARTS]) -> usize
+pub fn drop_rows(r: &mut [u64], count: usize, ready: &[u64; PARTS], low: &[u64]) -> usize
     requires { count * row_long ≤ length r.old }
     ensures { Closed ready.now low.now count r.old r.new result }
 {

@@ -18,13 +18,14 @@ loop-i-preserved c =
     let within : i < count_in s.msg.now = omega (arith, c.requires.msg_value) in
     let b = c.from-new.ensures ∙ byte_bit _ in (
       omega (arith, b, bit_le (not c.is_known.result)),
-      rw c.climb_row.ensures
+      rw c.climb_row.ensures.0
           (c.loop-i.invariant.1 ∙ climb-more s.msg.now c.requires.head.formed i within
           (record_at c.row_for-row.result) e
           c.loop-i.reached),
       c.loop-i.invariant.2 ∙ new-more s.msg.now c.requires.head.formed i within
           (record_at c.row_for-row.result) e s.known.now
           c.loop-i.new c.from-new.result (b ∙ ap (λ k. bit (not k)) c.is_known.ensures),
+      c.climb_row.ensures.1 ∙ c.loop-i.invariant.3,
     )
 
 pub returns : goal.returns
@@ -32,6 +33,7 @@ returns c =
     let s = c.args in
     let past : count_in s.msg.now ≤ c.loop-i.i = omega (arith, c.requires.msg_value, c.loop-i-test.false) in
     record {
-      reached_after = sym (c.loop-i.invariant.1 ∙ climb-end s.msg.now c.loop-i.i past c.loop-i.reached);
+      reached_after =
+          (sym (c.loop-i.invariant.1 ∙ climb-end s.msg.now c.loop-i.i past c.loop-i.reached), c.loop-i.invariant.3);
       value = (sym (c.loop-i.invariant.2 ∙ new-end s.msg.now c.loop-i.i past s.known.now c.loop-i.new), omega arith);
     }

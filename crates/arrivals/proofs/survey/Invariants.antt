@@ -12,3 +12,4 @@ abbrev pub invariant-loop-i : goal.invariant-loop-i
 invariant-loop-i l =
     (l.new ≤ l.i) × (climb l.initial.reached (records_in l.msg) ≡ climb l.reached (drop l.i (records_in l.msg)))
     × (length (unknowns l.known (records_in l.msg)) ≡ l.new + length (unknowns l.known (drop l.i (records_in l.msg))))
+    × (length l.reached ≡ length l.initial.reached)

@@ -35,7 +35,7 @@ returns-in_default c =
     let w = c.args in
     gap-refused w.b.now w.msg.now w.head.sender w.head.screens w.head.count
     (list_of w.head.stamp) c.requires.sound c.requires.heard
-    c.requires.stamp_stands _ c.known_of-known.ensures.0 _ refl (untold _ _ (sym c.look_at.ensures.value
+    c.requires.stamp_stands _ c.known_of-known.ensures.0 _ refl (untold _ _ _ (sym c.look_at.ensures.value
     ∙ c.in_default.is))
 
 pub logged_of-requires : goal.logged_of-requires
@@ -46,13 +46,13 @@ pub overflow_add-logged_of : goal.overflow_add-logged_of
 overflow_add-logged_of c =
     let w = c.args in
     let few = count-few w.msg.now w.head.sender w.head.screens w.head.count (list_of w.head.stamp) c.requires.heard in
-    let new = (told _ _ _ (sym c.look_at.ensures.value ∙ c.in-Some.is)).1 in
+    let new = (told _ _ _ (sym c.look_at.ensures.value ∙ c.in-Ok.is)).1 in
     record { fits = omega (arith, c.logged_of.ensures.2, c.look_at.ensures.few, new, few, log_small) }
 
 pub returns-then-log_room-logged_of : goal.returns-then-log_room-logged_of
 returns-then-log_room-logged_of c =
     let w = c.args in
-    let seen = told _ _ _ (sym c.look_at.ensures.value ∙ c.in-Some.is) in
+    let seen = told _ _ _ (sym c.look_at.ensures.value ∙ c.in-Ok.is) in
     room-refused w.b.now w.msg.now w.head.sender w.head.screens w.head.count
     (list_of w.head.stamp) c.requires.sound c.requires.heard
     c.requires.stamp_stands _ c.known_of-known.ensures.0 _ refl seen.0 _ seen.1 _ c.logged_of.ensures.0
@@ -61,7 +61,7 @@ returns-then-log_room-logged_of c =
 pub returns : goal.returns
 returns c =
     let w = c.args in
-    let seen = told _ _ _ (sym c.look_at.ensures.value ∙ c.in-Some.is) in (
+    let seen = told _ _ _ (sym c.look_at.ensures.value ∙ c.in-Ok.is) in (
       unrefused w.b.now w.msg.now w.head.sender w.head.screens w.head.count
           (list_of w.head.stamp) c.requires.sound c.requires.heard
           c.requires.stamp_stands _ c.known_of-known.ensures.0 _ refl seen.0 _ seen.1 _ c.logged_of.ensures.0
