@@ -4,7 +4,7 @@ use native.Mathlib.Omega.{arith}
 use mathlib.Core.Path.{◌≡◌, refl, sym, ap, ap₂, subst, ◌∙◌}
 use mathlib.Core.Logic.{◌⊎◌, inl, inr}
 use mathlib.Core.Bool.{Bool, true, false, cond}
-use mathlib.Core.List.{List, [], ◌∷◌, ◌++◌}
+use mathlib.Core.List.{List, ◌++◌}
 use mathlib.Core.Option.{none, some}
 use borrow.Author.Tests.{ltb-true, ltb-false, eq-eqb, ne_eqb}
 use lib.Dec.{T, eqb, eqb→eq, ltb}
@@ -36,7 +36,7 @@ use Rattle.open_step.specs.OpeningLaws.{wrong-length}
 use Rattle.book.specs.Heard.{owes_unsound, owes_unread}
 use Rattle.answer.specs.Speech.{bytes_for, sayable, long_of, say_on}
 use Rattle.answer.specs.SpeechLaws.{says-put, reply-long, tap-says, gossip-says}
-use Rattle.answer.specs.Answer.{Done, done_by, send_says, send_done, bad_on, kind_in, answer_by, Answers, open_from}
+use Rattle.answer.specs.Answer.{Done, done_by, send_says, send_done, bad_on, answer_by, Answers, open_from}
 use Rattle.answer.specs.Answer.{long_in}
 use Rattle.answer.specs.AnswerLaws.{short, front, unsound-says}
 
@@ -120,10 +120,10 @@ gossip-room ws bytes e =
 
 -- bytes that are no request
 module _ (ws : List ℕ) where
-  pub bad_unsound : lawful ws ≡ false → Promise (bad_on ws) (says.Refused Unsound) ws
+  pub bad_unsound : lawful ws ≡ false → Promise (bad_on ws) (says.Refused 11) ws
   bad_unsound e = owes_unsound ws e (record { reply = refusal 1; book = book_of ws })
 
-  pub bad_unread : lawful ws ≡ true → Promise (bad_on ws) (says.Refused Bad) ws
+  pub bad_unread : lawful ws ≡ true → Promise (bad_on ws) (says.Refused 1) ws
   bad_unread e = owes_unread ws e false refl (record { reply = refusal 1; book = book_of ws })
 
 -- send's
@@ -185,17 +185,18 @@ module _ (ws out : List ℕ) where
     unsound n = either refused.1 (λ x. absurd (n (ap table_number x.0))) (λ x. x)
 
     -- 11 is put like any other reply
-    pub send-ready : (table_number k ≡ 12 → ⊥) → T (sayable (spoken (says.Refused k)))
-    send-ready n = subst (λ (x : Refusal). T (sayable (spoken (says.Refused x)))) (sym (unsound n).0) unsound-says
+    pub send-ready : (table_number k ≡ 12 → ⊥) → T (sayable (spoken (says.Refused (table_number k))))
+    send-ready n =
+        subst (λ (x : Refusal). T (sayable (spoken (says.Refused (table_number x))))) (sym (unsound n).0) unsound-says
 
     pub send-owes :
         (table_number k ≡ 12 → ⊥) → (long : ℕ) (after : List ℕ)
-        → long ≡ long_in (put_front (bytes_for (spoken (says.Refused k))) bytes).answer
-        → after ≡ (put_front (bytes_for (spoken (says.Refused k))) bytes).bytes
+        → long ≡ long_in (put_front (bytes_for (spoken (says.Refused (table_number k)))) bytes).answer
+        → after ≡ (put_front (bytes_for (spoken (says.Refused (table_number k)))) bytes).bytes
         → Answers (answer_by (send_done ws) ws out) long ws after
     send-owes n long after f g =
-        let same : bytes_for (spoken (says.Refused k))
-        ≡ send_says ws = ap (λ (x : Refusal). bytes_for (spoken (says.Refused x))) (unsound n).0
+        let same : bytes_for (spoken (says.Refused (table_number k)))
+        ≡ send_says ws = ap (λ (x : Refusal). bytes_for (spoken (says.Refused (table_number x)))) (unsound n).0
         ∙ sym (unsound n).1 in
         put-owes (send_done ws) ws out ws long after
         (f ∙ ap₂ (λ (x y : List ℕ). long_in (put_front x y).answer) same refused.0)

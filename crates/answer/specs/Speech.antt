@@ -45,5 +45,5 @@ said_of (says.Taken s) = said.Taken s
 said_of (says.Already s) = said.Already s
 said_of (says.Verdict v) = verdict_says v
 said_of (says.Wait bits) = said.Wait bits
-said_of (says.Refused r) = said.Refusal (table_number r)
+said_of (says.Refused k) = said.Refusal k
 said_of (says.Gossiped g) = gossip_taken_says g

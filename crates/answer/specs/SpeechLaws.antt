@@ -69,7 +69,7 @@ said-figures (says.Taken s) = refl
 said-figures (says.Already s) = refl
 said-figures (says.Verdict v) = refl
 said-figures (says.Wait bits) = refl
-said-figures (says.Refused r) = refl
+said-figures (says.Refused k) = refl
 said-figures (says.Gossiped g) = refl
 
 pub say-said : (r : answer.Reply) (out : List ℕ)

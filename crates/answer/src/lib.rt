@@ -32,7 +32,7 @@ pub fn speak(reply: Reply, out: &mut [u8]) -> Result<usize, Refusal>
         Reply::Already(stamp) => write_already(stamp, out),
         Reply::Verdict(answer) => write_verdict(answer, out),
         Reply::Wait(bits) => write_wait(bits, out),
-        Reply::Refused(refusal) => write_refusal(refusal.number(), out),
+        Reply::Refused(number) => write_refusal(number, out),
         Reply::Gossiped(taken) => write_gossip_taken(taken, out),
     }
 }
@@ -109,7 +109,7 @@ fn answer_send(b: &[u64], out: &mut [u8]) -> usize
     match send(b, out) {
         Ok(long) => long,
         Err(Refusal::Short) => 0,
-        Err(refusal) => put(Reply::Refused(refusal), out),
+        Err(refusal) => put(Reply::from(refusal), out),
     }
 }
 
@@ -118,9 +118,9 @@ fn answer_bad(b: &[u64], out: &mut [u8]) -> usize
         b.now out.new }
 {
     if !sound(b) {
-        return put(Reply::Refused(Refusal::Unsound), out);
+        return put(Reply::from(Refusal::Unsound), out);
     }
-    put(Reply::Refused(Refusal::Bad), out)
+    put(Reply::from(Refusal::Bad), out)
 }
 
 // Send, or bytes that are no request.

@@ -3,14 +3,13 @@ use Prim.Native.Nat.{ℕ, suc, ◌+◌, ◌-◌, ◌*◌, ◌≤◌, ◌<◌}
 use native.Mathlib.Numerals.{add-one}
 use native.Mathlib.Omega.{arith}
 use mathlib.Core.Path.{◌≡◌, sym, ap, ap₂, subst, ◌∙◌}
-use mathlib.Core.Logic.{◌≢◌}
 use mathlib.Core.Bool.{Bool, true, false, not}
 use mathlib.Core.List.{List, [], ◌∷◌, ◌++◌, map, append-nil}
 use lib.Dec.{T, leb}
 use lib.ListN.{length, get_or, take, drop, drop_of_length-le, length-append}
 use lib.Seq.{take_all, take-suc, drop-cons}
 use Rattle.limits.specs.Limits.{parts}
-use Rattle.lists.specs.TestLaws.{clash, and_r, bit, is_true, keep-length}
+use Rattle.lists.specs.TestLaws.{clash, and_r, bit, keep-length}
 use Rattle.lists.specs.Order.{rising}
 use Rattle.lists.specs.Tests.{all_below, every, keep}
 use Rattle.stamp.specs.Parts.{parts_at, list_of}

@@ -37,7 +37,7 @@ pub fn ask_book(b: &[u64], question: Question) -> Reply
     ensures { spoken result ≡ (ask (book_of b.now) question.prompt (list_of question.label)).reply }
 {
     if label_unknown(b, question.label) {
-        return Reply::Refused(Refusal::UnknownLabel);
+        return Reply::from(Refusal::UnknownLabel);
     }
     let value = value_of(b);
     let asked = list_of(question.label);

@@ -4,7 +4,7 @@
 --     owes_unread    refusal 1, and nothing is altered
 --     owes-step      what the step on the book that the slice holds gives
 use Prim.Native.Nat.{ℕ, ◌<◌}
-use Rattle.std.proofs.Common.{arith, ap₂, ◌∙◌, ltb→lt}
+use Rattle.std.proofs.Common.{ap₂, ◌∙◌, ltb→lt}
 use Rattle.std.specs.Prelude.{◌≡◌, refl, Bool, true, false, ◌&&◌, cond, ltb, Ok, Err}
 use Rattle.std.proofs.Math.Path.{sym, ap, subst}
 use mathlib.Core.List.{List, ◌∷◌}
@@ -24,7 +24,7 @@ use Rattle.wire.specs.Read.{line_of, readable, read_as}
 use Rattle.wire.proofs.ReadLaws.{told}
 use Rattle.wire.specs.Write.{Written, Output, Meets, refuse}
 use Rattle.wire.specs.Says.{head_says, tap_says, question_says}
-use Rattle.wire.specs.declared.Refusal.TheVariants.{Bad, Unsound}
+use Rattle.wire.specs.declared.Refusal.TheVariants.{Unsound}
 use Rattle.wire.specs.declared.Head as gossiping
 use Rattle.wire.specs.declared.Question as asking
 use Rattle.wire.specs.declared.TapRequest as tapping
@@ -49,8 +49,8 @@ use Rattle.promise.specs.declared.Reply.TheVariants as says
 use Rattle.book.specs.Stop.{TapStopOn, GossipStopOn}
 
 module _ (ws : List ℕ) where
-  pub owes_unsound : lawful ws ≡ false → (o : Outcome) → Promise (on_book ws o) (says.Refused Unsound) ws
-  owes_unsound e o = subst (λ (l : Lent). Promise l (says.Refused Unsound) ws)
+  pub owes_unsound : lawful ws ≡ false → (o : Outcome) → Promise (on_book ws o) (says.Refused 11) ws
+  owes_unsound e o = subst (λ (l : Lent). Promise l (says.Refused 11) ws)
       (ap (λ (c : Bool). cond c (lent_of o) (record { reply = refusal 11; words = ws })) (sym e))
       (record { answers = refl; leaves = refl })
 
@@ -72,7 +72,7 @@ module _ (ws : List ℕ) where
     stop-read c t stop = stop-sound c stop ∙ ap (λ (d : Bool). cond d stop (some (refusal 1))) (is_true c t)
 
     pub owes_unread : (c : Bool) → c ≡ false → (o : Outcome)
-        → Promise (on_book ws (heard c (book_of ws) o)) (says.Refused Bad) ws
+        → Promise (on_book ws (heard c (book_of ws) o)) (says.Refused 1) ws
     owes_unread c f o =
         let q : on_book ws (heard c (book_of ws) o)
         ≡ lent_of (record { reply = refusal 1; book = book_of ws }) = on-sound (heard c (book_of ws) o)

@@ -1,7 +1,7 @@
 -- What stops a tap or a gossip on lent words, judged before any of them changes. Assumes nothing.
 use Rattle.std.specs.Prelude.{◌≡◌, List, ℕ, length, Ok, Err}
 use Rattle.std.proofs.Math.Option.{none, some}
-use Rattle.stamp.specs.Parts.{parts_at, list_of}
+use Rattle.stamp.specs.Parts.{parts_at}
 use Rattle.wire.specs.Kinds.{tap_kind, tap_at}
 use Rattle.wire.specs.Read.{line_of}
 use Rattle.message.specs.Message.{message_of}

@@ -1,6 +1,6 @@
 -- Laws: two stops that both meet what a tap's, or a gossip's, promises are equal. Assumes nothing.
 use Rattle.std.specs.Prelude.{ℕ, ◌≡◌, refl, List, [], Ok, Err}
-use Rattle.std.proofs.Common.{sym, ap, ap₂, ◌∙◌}
+use Rattle.std.proofs.Common.{sym, ap, ◌∙◌}
 use Rattle.std.proofs.Math.Option.{some-injective, some-ne-none}
 use Rattle.stamp.specs.Parts.{parts_at, list_of}
 use Rattle.stamp.specs.PartsLaws.{parts_list}

@@ -31,7 +31,7 @@ pub fn tap_stop(b: &[u64], msg: &[u8]) -> Result<TapRequest, Reply>
     ensures { TapStopOn b.now msg.now result }
 {
     if !sound(b) {
-        return Err(Reply::Refused(Refusal::Unsound));
+        return Err(Reply::from(Refusal::Unsound));
     }
     let asked = read_tap(msg, screens_of(b) as usize)?;
     stop_tap(b, asked)
@@ -51,11 +51,11 @@ pub fn question(b: &[u64], msg: &[u8]) -> Reply
     ensures { Promise (question_on b.now msg.now) result b.now }
 {
     if !sound(b) {
-        return Reply::Refused(Refusal::Unsound);
+        return Reply::from(Refusal::Unsound);
     }
     match read_question(msg, screens_of(b) as usize) {
         Ok(question) => ask_book(b, question),
-        Err(refusal) => Reply::Refused(refusal),
+        Err(refusal) => Reply::from(refusal),
     }
 }
 
@@ -75,7 +75,7 @@ pub fn gossip_stop(b: &[u64], msg: &[u8]) -> Result<Incoming, Reply>
     ensures { GossipStopOn b.now msg.now result }
 {
     if !sound(b) {
-        return Err(Reply::Refused(Refusal::Unsound));
+        return Err(Reply::from(Refusal::Unsound));
     }
     let head = read_gossip(msg)?;
     stop_gossip(b, msg, head)

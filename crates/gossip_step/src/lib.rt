@@ -217,10 +217,10 @@ fn stop_records(b: &[u64], msg: &[u8], head: Head) -> Result<Incoming, Reply>
         head.stamp,
         &known,
     ) else {
-        return Err(Reply::Refused(Refusal::Gap));
+        return Err(Reply::from(Refusal::Gap));
     };
     if log_room() < (logged_of(b) + new) as u64 {
-        return Err(Reply::Refused(Refusal::NoRoom));
+        return Err(Reply::from(Refusal::NoRoom));
     }
     Ok(Incoming { head, new })
 }

@@ -29,7 +29,7 @@ fn last_refusal(refused: Refusal, out: &mut [u8]) -> Turn
     ensures value { result ≡ Last (length (refusal_bytes refused)) }
     ensures out_after { out.new ≡ refusal_bytes refused ++ drop (length (refusal_bytes refused)) out.old }
 {
-    match speak(Reply::Refused(refused), out) {
+    match speak(Reply::from(refused), out) {
         Ok(n) => Turn::Last(n),
         Err(_) => Turn::Stop,
     }

@@ -11,7 +11,7 @@ use Rattle.stamp.specs.Parts.{parts_at}
 use Rattle.stamp.specs.PartsLaws.{parts_list}
 use Rattle.stamp.specs.declared.Parts.{Parts}
 use Rattle.wire.specs.Write.{Output, refuse}
-use Rattle.wire.specs.Refusal.{refusal_numbered, numbered_back}
+use Rattle.wire.specs.Refusal.{refusal_numbered}
 use Rattle.wire.specs.declared.Refusal.TheVariants.{Unsound, Short}
 use Rattle.message.specs.Message.{message_bytes}
 use Rattle.meaning.specs.Book.{Book}
@@ -88,7 +88,7 @@ answer_of (meaning.already s) = says.Already (parts_at 0 s)
 answer_of (meaning.verdict v h a d s) =
     says.Verdict (record { verdict = v; showing = h; accepts = a; declines = d; value = parts_at 0 s })
 answer_of (meaning.wait bits) = says.Wait bits
-answer_of (meaning.refusal k) = says.Refused (refusal_numbered k)
+answer_of (meaning.refusal k) = says.Refused k
 answer_of (meaning.gossiped new applied) = says.Gossiped (record { new = new; applied = applied })
 
 answer_back : (r : answer.Reply) → answer_of (spoken r) ≡ r
@@ -105,7 +105,7 @@ answer_back (says.Verdict v) =
     }))
     (parts_list v.value)
 answer_back (says.Wait bits) = refl
-answer_back (says.Refused r) = ap says.Refused (numbered_back r)
+answer_back (says.Refused k) = refl
 answer_back (says.Gossiped g) = refl
 
 -- for any two outcomes that both satisfy an operation's promise, equality

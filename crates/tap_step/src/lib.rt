@@ -99,7 +99,7 @@ pub fn stop_tap(b: &[u64], asked: TapRequest) -> Result<TapRequest, Reply>
     ensures { StopsTap (book_of b.now) asked result }
 {
     if label_unknown(b, asked.label) {
-        return Err(Reply::Refused(Refusal::UnknownLabel));
+        return Err(Reply::from(Refusal::UnknownLabel));
     }
     let w = pack(asked.tap);
     if is_counted(b, w) {
@@ -109,10 +109,10 @@ pub fn stop_tap(b: &[u64], asked: TapRequest) -> Result<TapRequest, Reply>
         return Err(Reply::Already(logged_stamp(b, i)));
     }
     if is_spent(b) {
-        return Err(Reply::Refused(Refusal::Spent));
+        return Err(Reply::from(Refusal::Spent));
     }
     if log_room() <= logged_of(b) as u64 {
-        return Err(Reply::Refused(Refusal::NoRoom));
+        return Err(Reply::from(Refusal::NoRoom));
     }
     Ok(asked)
 }

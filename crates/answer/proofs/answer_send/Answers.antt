@@ -21,7 +21,7 @@ returns-in-Err-Short c =
     send-short s.b.now s.out.now _ _ _ c.in-Err-Short.is c.send.ensures (ap table_number c.in-Err-Short.field-0-is)
 
 pub put-requires : goal.put-requires
-put-requires c = refusal-says c.in-Err.refusal
+put-requires c = rw c.from.ensures (refusal-says c.in-Err.refusal)
 
 -- the third arm: any refusal but the last of the table, which the second took
 not_short : (r : Refusal) → OneOf (0 ∷ 1 ∷ 2 ∷ 3 ∷ 4 ∷ 5 ∷ 6 ∷ 7 ∷ 8 ∷ 9 ∷ [])
@@ -42,4 +42,5 @@ pub returns-in-Err : goal.returns-in-Err
 returns-in-Err c =
     let s = c.args in
     send-owes s.b.now s.out.now _ _ _ c.in-Err.is c.send.ensures
-    (not_short c.in-Err.refusal (opened c.in-Err.in-Err-own'.keys2)) _ _ c.put.ensures.value c.put.ensures.out_after
+    (not_short c.in-Err.refusal (opened c.in-Err.in-Err-own'.keys2)) _ _ (rw c.from.ensures at c.put.ensures.value)
+    (rw c.from.ensures at c.put.ensures.out_after)

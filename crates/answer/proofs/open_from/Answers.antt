@@ -1,5 +1,4 @@
 -- `answer::open_from` meets its contract. Assumes nothing.
-use mathlib.Core.Path.{sym, ◌∙◌}
 use Rattle.std.proofs.lemmas.Result.{err_from_is_err_and}
 use Rattle.lent.specs.Words.{book_long}
 use Rattle.wire.specs.Kinds.{open_kind}

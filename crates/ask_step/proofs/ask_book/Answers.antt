@@ -25,9 +25,10 @@ label_unknown-requires c =
 pub returns-then-label_unknown : goal.returns-then-label_unknown
 returns-then-label_unknown c =
     let ws = c.args.b.now in
-    sym (line_3 (book_of ws) c.args.question.prompt (list_of c.args.question.label) (lawful-sound ws c.requires.sound)
-    c.requires.prompt_fits
-    c.requires.label_fits (sym c.label_unknown.ensures ∙ c.if-label_unknown.true))
+    let line = line_3 (book_of ws) c.args.question.prompt (list_of c.args.question.label)
+    (lawful-sound ws c.requires.sound) c.requires.prompt_fits c.requires.label_fits
+    (sym c.label_unknown.ensures ∙ c.if-label_unknown.true) in
+    rw c.from.ensures (sym line)
 
 pub value_of-value-requires : goal.value_of-value-requires
 value_of-value-requires c = lawful-held c.args.b.now c.requires.sound

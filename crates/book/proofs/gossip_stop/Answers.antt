@@ -4,7 +4,6 @@ use mathlib.Core.Bool.{true}
 use lib.Dec.{T}
 use borrow.Author.Tests.{not-true, not-false}
 use Rattle.lists.specs.Tests.{first_of}
-use Rattle.wire.specs.Kinds.{head_kind}
 use Rattle.message.specs.Message.{well_formed, message_of}
 use Rattle.std.proofs.lemmas.Result.{err_from_is_err_and}
 use Rattle.message.specs.Told.{gossip-unread}
@@ -18,8 +17,9 @@ pub returns-then-not-sound : goal.returns-then-not-sound
 unfolding gossip_stop
 returns-then-not-sound c =
     let s = c.args in
-    stop_unsound s.b.now (sym c.sound.ensures ∙ not-true _ c.if-not-sound.true-raw) (well_formed s.msg.now)
-    (first_of (gossip_stops (book_of s.b.now) (message_of s.msg.now)))
+    rw c.from.ensures
+    (stop_unsound s.b.now (sym c.sound.ensures ∙ not-true _ c.if-not-sound.true-raw) (well_formed s.msg.now)
+    (first_of (gossip_stops (book_of s.b.now) (message_of s.msg.now))))
 
 pub returns-in_err-head : goal.returns-in_err-head
 unfolding gossip_stop

@@ -23,8 +23,9 @@ pub returns-then-not-sound : goal.returns-then-not-sound
 unfolding question_on
 returns-then-not-sound c =
     let s = c.args in
-    owes_unsound s.b.now (sym c.sound.ensures ∙ not-true _ c.if-not-sound.true-raw)
-    (hear of_question (book_of s.b.now) s.msg.now)
+    rw c.from.ensures
+    (owes_unsound s.b.now (sym c.sound.ensures ∙ not-true _ c.if-not-sound.true-raw)
+    (hear of_question (book_of s.b.now) s.msg.now))
 
 pub screens_of-requires : goal.screens_of-requires
 screens_of-requires c =
@@ -69,5 +70,5 @@ returns-in-Err c =
     let line = line_of k s.msg.now in
     let told = unread k s.msg.now _
     (heard s.b.now s.msg.now _ _ c.in-Err.ensures c.screens_of.ensures.0) in
-    rw told.1 (owes_unread s.b.now (sound-now) (readable k s.msg.now) told.0
+    rw (c.from-in-Err.ensures, told.1) (owes_unread s.b.now (sound-now) (readable k s.msg.now) told.0
     (ask (book_of s.b.now) (get_or line 1 0) (stamp_at 2 line)))

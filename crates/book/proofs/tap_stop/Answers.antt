@@ -26,8 +26,9 @@ returns-then-not-sound c =
     let s = c.args in
     let k = tap_kind (book_of s.b.now).screens in
     let line = line_of k s.msg.now in
-    stop_unsound s.b.now (sym c.sound.ensures ∙ not-true _ c.if-not-sound.true-raw) (readable k s.msg.now)
-    (first_of (tap_stops (book_of s.b.now) (tap_at 1 line) (stamp_at 6 line)))
+    rw c.from.ensures
+    (stop_unsound s.b.now (sym c.sound.ensures ∙ not-true _ c.if-not-sound.true-raw) (readable k s.msg.now)
+    (first_of (tap_stops (book_of s.b.now) (tap_at 1 line) (stamp_at 6 line))))
 
 pub screens_of-requires : goal.screens_of-requires
 screens_of-requires c =

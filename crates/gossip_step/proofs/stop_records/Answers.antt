@@ -33,10 +33,11 @@ look_at-requires c =
 pub returns-in_default : goal.returns-in_default
 returns-in_default c =
     let w = c.args in
-    gap-refused w.b.now w.msg.now w.head.sender w.head.screens w.head.count
+    rw c.from.ensures
+    (gap-refused w.b.now w.msg.now w.head.sender w.head.screens w.head.count
     (list_of w.head.stamp) c.requires.sound c.requires.heard
     c.requires.stamp_stands _ c.known_of-known.ensures.0 _ refl (untold _ _ _ (sym c.look_at.ensures.value
-    ∙ c.in_default.is))
+    ∙ c.in_default.is)))
 
 pub logged_of-requires : goal.logged_of-requires
 logged_of-requires c =
@@ -53,10 +54,11 @@ pub returns-then-log_room-logged_of : goal.returns-then-log_room-logged_of
 returns-then-log_room-logged_of c =
     let w = c.args in
     let seen = told _ _ _ (sym c.look_at.ensures.value ∙ c.in-Ok.is) in
-    room-refused w.b.now w.msg.now w.head.sender w.head.screens w.head.count
+    rw c.from-then-log_room-logged_of.ensures
+    (room-refused w.b.now w.msg.now w.head.sender w.head.screens w.head.count
     (list_of w.head.stamp) c.requires.sound c.requires.heard
     c.requires.stamp_stands _ c.known_of-known.ensures.0 _ refl seen.0 _ seen.1 _ c.logged_of.ensures.0
-    (omega (arith, c.log_room.ensures, c.if-log_room-logged_of.true))
+    (omega (arith, c.log_room.ensures, c.if-log_room-logged_of.true)))
 
 pub returns : goal.returns
 returns c =

@@ -4,8 +4,11 @@ use Rattle.program.proofs.last_refusal.Goals as goal
 
 pub returns-in-Ok : goal.returns-in-Ok
 returns-in-Ok c =
-    let all = refusal-said c.args.refused c.args.out.now _ _ c.requires c.speak.ensures _ c.in-Ok.is in
+    let said = rw c.from.ensures at c.speak.ensures in
+    let all = refusal-said c.args.refused c.args.out.now _ _ c.requires said _ c.in-Ok.is in
     record { value = all.0; out_after = all.1 }
 
 pub returns-in-Err : goal.returns-in-Err
-returns-in-Err c = absurd (refusal_unsaid c.args.refused c.args.out.now _ _ c.requires c.speak.ensures _ c.in-Err.is)
+returns-in-Err c =
+    let said = rw c.from.ensures at c.speak.ensures in
+    absurd (refusal_unsaid c.args.refused c.args.out.now _ _ c.requires said _ c.in-Err.is)

@@ -53,10 +53,11 @@ label_unknown-requires c =
 pub returns-then-label_unknown : goal.returns-then-label_unknown
 returns-then-label_unknown c =
     let ws = c.args.b.now in
-    line_3 (book_of ws) c.args.asked.tap (list_of c.args.asked.label)
+    rw c.from.ensures
+    (line_3 (book_of ws) c.args.asked.tap (list_of c.args.asked.label)
     (lawful-sound ws c.requires.sound) c.requires.tap_fits
     c.requires.label_fits
-    (sym c.label_unknown.ensures ∙ c.if-label_unknown.true)
+    (sym c.label_unknown.ensures ∙ c.if-label_unknown.true))
 
 pub pack-w-requires : goal.pack-w-requires
 pack-w-requires c = fits_bits c.args.asked.tap c.requires.tap_fits
@@ -114,12 +115,13 @@ pub returns-then-is_spent : goal.returns-then-is_spent
 returns-then-is_spent c =
     let ws = c.args.b.now in
     let s = same c.args.asked.tap _ c.requires.tap_fits c.pack-w.ensures in
-    line_7 (book_of ws) c.args.asked.tap (list_of c.args.asked.label)
+    rw c.from-then-is_spent.ensures
+    (line_7 (book_of ws) c.args.asked.tap (list_of c.args.asked.label)
     (lawful-sound ws c.requires.sound) c.requires.tap_fits c.requires.label_fits
     (sym c.label_unknown.ensures ∙ c.if-label_unknown.false)
     (uncounted (book_of ws) c.args.asked.tap _ s c.is_counted.ensures c.if-is_counted.false)
     (unlogged (book_of ws).log c.args.asked.tap _ s (sym c.find_logged.ensures ∙ c.in_default.is))
-    (sym c.is_spent.ensures ∙ c.if-is_spent.true)
+    (sym c.is_spent.ensures ∙ c.if-is_spent.true))
 
 pub logged_of-requires : goal.logged_of-requires
 logged_of-requires c = lawful-held c.args.b.now c.requires.sound
@@ -130,12 +132,13 @@ returns-then-log_room-logged_of c =
     let s = same c.args.asked.tap _ c.requires.tap_fits c.pack-w.ensures in
     let full = le-leb log_room (length (book_of ws).log)
     (omega (arith, c.log_room.ensures, c.logged_of.ensures.0, c.if-log_room-logged_of.true)) in
-    line_9 (book_of ws) c.args.asked.tap (list_of c.args.asked.label)
+    rw c.from-then-log_room-logged_of.ensures
+    (line_9 (book_of ws) c.args.asked.tap (list_of c.args.asked.label)
     (lawful-sound ws c.requires.sound) c.requires.tap_fits c.requires.label_fits
     (sym c.label_unknown.ensures ∙ c.if-label_unknown.false)
     (uncounted (book_of ws) c.args.asked.tap _ s c.is_counted.ensures c.if-is_counted.false)
     (unlogged (book_of ws).log c.args.asked.tap _ s (sym c.find_logged.ensures ∙ c.in_default.is))
-    (sym c.is_spent.ensures ∙ c.if-is_spent.false) full
+    (sym c.is_spent.ensures ∙ c.if-is_spent.false) full)
 
 pub returns : goal.returns
 returns c =
