@@ -4,3 +4,4 @@ pub mod Lowest
 pub mod RowSound
 pub mod Walk
 pub mod Held
+pub mod First

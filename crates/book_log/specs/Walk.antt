@@ -2,6 +2,7 @@
 --     records-all    from the front it is all of them
 --     records-next   the row at the place, and those past it
 --     records-none   past the last row there are none
+--     record-lent    the row at the place, as it is lent
 --     row_lent       the i-th row, as it is lent
 --     record_in      the i-th record
 use Rattle.std.specs.Prelude.{ℕ, suc, ◌+◌, ◌-◌, ◌*◌, ◌≤◌, ◌<◌, ◌≡◌, refl, List, [], ◌∷◌, take, drop, get_or}
@@ -38,7 +39,17 @@ records-none n r i at h =
     let e : n - i ≡ 0 = omega arith in
     rw e
 
--- the row lent as an array
+-- the same row lent as a part
+abbrev pub lent_at : List ℕ → ℕ → Record
+lent_at r at = record_at (take (at + row_long - at) (drop at r))
+
+pub record-lent : (r : List ℕ) (at : ℕ) → lent_at r at ≡ row_record r at
+unfolding row_record
+record-lent r at =
+    let e : at + row_long - at ≡ row_long = omega arith in
+    rw e
+
+-- and lent as an array
 pub row_lent : (rs : List (List ℕ)) (n : ℕ) (r : List ℕ) (i : ℕ) → rs ≡ rows row_long n r → i < n
     → record_at (get_or rs i []) ≡ row_record r (i * row_long)
 unfolding row_record

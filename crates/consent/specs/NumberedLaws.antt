@@ -19,9 +19,28 @@ use Rattle.wire.specs.declared.Refusal.{Refusal}
 use Rattle.open_step.specs.Opening.{Opening, Opens, spoken_opening}
 use Rattle.consent.specs.Numbered.{refused_as, OpensAs}
 
+-- a refusal with a number of its own
+abbrev pub numbered : Reply → Bool
+numbered r = not (is_of refusal_number r && eqb (get_or (figures r) 1 0) 0)
+
+-- what refuses an opening has a number of its own
+module _ (ws : List ℕ) (i n : ℕ) where
+  pub open-numbered : (r : Reply) → (open_on ws i n).refused ≡ some r → T (numbered r)
+  unfolding open_on open_stops
+  open-numbered r = go (first_of stops) refl
+    where
+      stops : List (Bool × Reply)
+      stops = open_stops (eqb (length ws) book_long) i n
+
+      go : (o : Option Reply) → first_of stops ≡ o → (open_or ws (words_of (fresh i n)) o).refused ≡ some r
+          → T (numbered r)
+      go none e f = let z : ◌≡◌ {A = ℕ} 0 1 = cc in absurd (omega arith)
+      go (some q) e f = let z : q ≡ r = cc in
+          subst (λ (x : Reply). T (numbered x)) z (first_passes numbered stops tt q e)
+
 -- no refusal is numbered zero
-numbered : (r : Refusal) → refused_as (table_number r) ≡ some (refusal (table_number r))
-numbered r = ap (λ (c : Bool). cond {A = Option Reply} c none (some (refusal (table_number r))))
+refused-some : (r : Refusal) → refused_as (table_number r) ≡ some (refusal (table_number r))
+refused-some r = ap (λ (c : Bool). cond {A = Option Reply} c none (some (refusal (table_number r))))
     (ne_eqb (table_number r) 0 (λ e. omega (arith, e, number_pos r)))
 
 module _ (ws : List ℕ) (i n : ℕ) (r : Opening) (words : List ℕ) (o : Opens (open_on ws i n) r words) where
@@ -29,7 +48,7 @@ module _ (ws : List ℕ) (i n : ℕ) (r : Opening) (words : List ℕ) (o : Opens
   opened_as e = record { answers = sym (ap spoken_opening e) ∙ o.answers; leaves = o.leaves }
 
   pub refused_with : (k : Refusal) → r ≡ Err k → OpensAs (open_on ws i n) (table_number k) words
-  refused_with k e = record { answers = numbered k ∙ sym (ap spoken_opening e) ∙ o.answers; leaves = o.leaves }
+  refused_with k e = record { answers = refused-some k ∙ sym (ap spoken_opening e) ∙ o.answers; leaves = o.leaves }
 
 -- an opening's number is settled by what it says
 abbrev number_in : Option Reply → ℕ

@@ -1,5 +1,5 @@
 -- Laws: tests over lists as facts, and facts as tests. Assumes nothing.
-use Rattle.std.specs.Prelude.{ℕ, zero, suc, ◌+◌, ◌≤◌, ◌<◌, ◌≡◌, refl, ◌⊎◌, Bool, true, false, not, ◌&&◌, ◌||◌}
+use Rattle.std.specs.Prelude.{ℕ, zero, suc, ◌+◌, ◌-◌, ◌≤◌, ◌<◌, ◌≡◌, refl, ◌⊎◌, Bool, true, false, not, ◌&&◌, ◌||◌}
 use Rattle.std.specs.Prelude.{cond, T, ltb, length, get_or}
 use Rattle.std.proofs.Common.{not-suc-le-zero, arith, sym, ap, subst, ◌∙◌, inl, inr, ltb→lt, nltb→le}
 use mathlib.Core.List.Memᴰ
@@ -129,6 +129,12 @@ pub all_below-from : (n : ℕ) (p : ℕ → Bool) → ((k : ℕ) → k < n → T
 all_below-from zero p f = tt
 all_below-from (suc n) p f = both (p n) (all_below n p) (f n (omega arith))
     (all_below-from n p (λ k h. f k (omega arith)))
+
+-- the tests below a number, from the last
+pub below_last : (p : ℕ → Bool) (k : ℕ) → 0 < k → all_below k p ≡ (p (k - 1) && all_below (k - 1) p)
+below_last p k h =
+    let e : k ≡ suc (k - 1) = omega arith in
+    ap (λ (j : ℕ). all_below j p) e
 
 abbrev pub bit : Bool → ℕ
 bit true = 1

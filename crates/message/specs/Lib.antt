@@ -1,4 +1,5 @@
 pub mod Message
+pub mod Tags
 pub mod Find
 pub mod Parts
 pub mod Told

@@ -40,6 +40,5 @@ pub fn play(input: &[u8], expected: &[u8]) -> Result<usize, Differs>
 {
     let mut book = [0u64; BOOK];
     let mut out = [0u8; LONGEST];
-    let place = follow(&mut book, input, &mut out, expected)?;
-    end_at(place, expected)
+    end_at(follow(&mut book, input, &mut out, expected), expected)
 }

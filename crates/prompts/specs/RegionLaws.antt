@@ -3,13 +3,13 @@
 use Rattle.std.specs.Prelude.{ℕ, zero, suc, ◌+◌, ◌*◌, ◌<◌, ◌≡◌, refl, Bool, true, false, ◌&&◌, List, [], ◌∷◌}
 use Rattle.std.specs.Prelude.{◌++◌, map, eqb}
 use Rattle.std.specs.Prelude.{length, take, drop, get_or, set, replicate}
-use Rattle.std.proofs.Common.{arith, sym, ap, ◌∙◌, length-set}
+use Rattle.std.proofs.Common.{add-zero, arith, sym, ap, ◌∙◌, length-set, get_or-take, get_or-drop}
 use Rattle.std.specs.Simd.{first_chunks}
 use Rattle.std.proofs.lemmas.List.{length-map}
 use Rattle.std.proofs.Math.ListN.{get_or-map}
 use Rattle.lists.proofs.ElementLaws.{OneMore, at, later}
 use Rattle.lists.specs.Order.{same_key}
-use Rattle.lists.specs.RowLaws.{length-rows}
+use Rattle.lists.specs.RowLaws.{length-rows, rows_at}
 use Rattle.lists.specs.Rows.{rows, flat}
 use Rattle.lists.specs.Tests.{numbers}
 use Rattle.limits.specs.Limits.{prompt_count}
@@ -63,7 +63,28 @@ pub length-words : (ss : List Standing) → length ss ≡ prompt_count → lengt
 unfolding standing_words
 length-words ss h = length-cells ss ∙ ap (λ (n : ℕ). n * standing_long) h ∙ long
 
--- one standing, by its row as `as_chunks` lends it
+-- one standing, by its place
+pub standing-words : (r : List ℕ) (p : ℕ) → p < prompt_count
+    → get_or (standings_at r) p blank
+    ≡ record {
+      showing = get_or r (p * standing_long) 0;
+      accepts = get_or r (p * standing_long + 1) 0;
+      declines = get_or r (p * standing_long + 2) 0;
+    }
+unfolding standings_at
+standing-words r p h =
+    let first : get_or (take standing_long (drop (p * standing_long) r)) 0 0
+    ≡ get_or r (p * standing_long) 0 =
+    word 0 (omega arith) ∙ ap (λ (k : ℕ). get_or r k 0) (add-zero (p * standing_long)) in
+    get_or-map standing_in (rows standing_long prompt_count r) p []
+    ∙ ap standing_in (rows_at standing_long prompt_count r p h)
+    ∙ (λ i. record { showing = first i; accepts = word 1 (omega arith) i; declines = word 2 (omega arith) i })
+  where
+    word : (k : ℕ) → k < standing_long
+        → get_or (take standing_long (drop (p * standing_long) r)) k 0 ≡ get_or r (p * standing_long + k) 0
+    word k l = get_or-take standing_long (drop (p * standing_long) r) k 0 l ∙ get_or-drop (p * standing_long) r k 0
+
+-- and by its row as `as_chunks` lends it
 chunks : (w n : ℕ) (l : List ℕ) → rows w n l ≡ first_chunks w n l
 unfolding rows
 chunks w zero l = refl
@@ -148,6 +169,9 @@ standings-noted t ss h = standings-words (noted_at t ss) (length-noted t ss ∙ 
 pub prompt-word : (w : ℕ) → (tap_of w).prompt < prompt_count
 unfolding prompt_count
 prompt-word w = omega arith
+
+pub afresh-first : (t : Tap) (ts : List Tap) → t.prompt < prompt_count → afresh (t ∷ ts) ≡ noted_at t (afresh ts)
+afresh-first t ts h = afresh-more t ts (t ∷ ts) at h
 
 last-more : (t : Tap) (ts : List Tap) → OneMore t ts (ts ++ (t ∷ []))
 last-more t [] = at

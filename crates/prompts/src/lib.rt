@@ -30,16 +30,13 @@ pub fn standing_at(r: &[u64], p: u64) -> Standing
     }
 }
 
-// Kept: the place is worked out here, since the library lends no rows to write to.
 fn put_standing(r: &mut [u64], p: u64, s: Standing)
     requires r_len { length r.old ≡ prompt_words }
     requires p_lt_prompt_count { p < prompt_count }
     ensures { r.new ≡ standing_words (set (standings_at r.old) p s) }
 {
     let at = p as usize * STANDING_LONG;
-    r[at] = s.showing;
-    r[at + 1] = s.accepts;
-    r[at + 2] = s.declines;
+    r[at..at + STANDING_LONG].copy_from_slice(&[s.showing, s.accepts, s.declines]);
 }
 
 // Notes one more tap at its prompt.

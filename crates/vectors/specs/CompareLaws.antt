@@ -1,22 +1,49 @@
 -- Laws of comparing. Assumes nothing.
+--     alike-more, alike-off, alike_end    one place, and an end, of a comparison from the front
 --     alike_zip                           a count of what is the same, as a chain over both
 --     alike_le                            no more is the same than is said, and than is expected
 --     to_end                              the part of a list from a place to its end
+--     compared_less, compared-all         what a count of the same bytes comes to
 --     compared-none                       saying nothing is always right
 --     compared_append                     what is said in two pieces is compared piece by piece
 --     compared-within                     what is the same lies within what is expected
 --     same-equal, equal-same              the outcome is "the same" exactly where the two are equal
-use Rattle.std.specs.Prelude.{ℕ, suc, ◌+◌, ◌-◌, ◌≤◌, ◌<◌, Bool, List, [], ◌∷◌, ◌++◌, eqb, take, drop, Ok, Err}
+use Rattle.std.specs.Prelude.{ℕ, suc, ◌+◌, ◌-◌, ◌≤◌, ◌<◌, Bool, List, [], ◌∷◌, ◌++◌, eqb, take, drop, get_or}
+use Rattle.std.specs.Prelude.{Ok, Err}
 use native.Mathlib.Omega.{arith}
 use Rattle.std.proofs.Math.Path.{◌≡◌, refl}
-use Rattle.std.proofs.Common.{ap, ap₂, ◌∙◌, length-drop, take_all}
+use Rattle.std.proofs.Common.{ap, ap₂, ◌∙◌, length-drop, drop_of_length-le, take_all}
 use Rattle.std.proofs.Math.Bool.{true, false, cond}
-use borrow.Author.Tests.{ltb-true, ltb-false, lt-ltb, le-ltb, eq-eqb, eqb-true}
+use borrow.Author.Tests.{ltb-true, ltb-false, lt-ltb, le-ltb, eq-eqb, ne_eqb, eqb-true}
 use Rattle.std.proofs.Math.Dec.{ltb}
 use Rattle.std.proofs.Math.ListN.{length, length-append}
 use Rattle.std.proofs.Math.Seq.{drop-drop}
 use Rattle.std.specs.List.{zip, prefix_len}
+use Rattle.lists.specs.Scan.{rest}
 use Rattle.vectors.specs.Compare.{Outcome, differs, alike, compared_at, outcome_of, ended_by}
+
+alike-none : (said : List ℕ) → alike said [] ≡ 0
+unfolding alike
+alike-none [] = refl
+alike-none (x ∷ said) = refl
+
+module _ (said expected : List ℕ) (i : ℕ) where
+  pub alike-more : i < length said → i < length expected → get_or said i 0 ≡ get_or expected i 0
+      → alike (drop i said) (drop i expected) ≡ suc (alike (drop (i + 1) said) (drop (i + 1) expected))
+  unfolding alike
+  alike-more h k e = rw (rest said i h, rest expected i k, eq-eqb (get_or said i 0) (get_or expected i 0) e)
+
+  pub alike-off : i < length said → i < length expected → (get_or said i 0 ≡ get_or expected i 0 → ⊥)
+      → alike (drop i said) (drop i expected) ≡ 0
+  unfolding alike
+  alike-off h k e = rw (rest said i h, rest expected i k, ne_eqb (get_or said i 0) (get_or expected i 0) e)
+
+  pub alike_end : length expected ≤ i → alike (drop i said) (drop i expected) ≡ 0
+  alike_end h = rw (drop_of_length-le expected h) (alike-none (drop i said))
+
+  pub alike_all : length said ≤ i → alike (drop i said) (drop i expected) ≡ 0
+  unfolding alike
+  alike_all h = rw (drop_of_length-le said h)
 
 -- how many pairs at the front agree
 pub alike_zip : (said expected : List ℕ) → alike said expected ≡ prefix_len (λ p. eqb p.0 p.1) (zip said expected)
@@ -43,6 +70,22 @@ to_end at e = take_all (length e - at) (drop at e) (omega (arith, length-drop at
 
 -- what a comparison of the rest of a list goes by
 pub ruleset comparing = (to_end, alike_le)
+
+-- a count of what is the same
+module _ (at : ℕ) (said e : List ℕ) (same : ℕ) (q : same ≡ alike said (take (length e - at) (drop at e))) where
+  same_is : same ≡ alike said (drop at e)
+  same_is = q ∙ ap (alike said) (to_end at e)
+
+  pub counted-within : same ≤ length e - at
+  counted-within = omega (arith, same_is, (alike_le said (drop at e)).1, length-drop at e)
+
+  pub compared_less : same < length said → differs (at + same) ≡ compared_at at said e
+  unfolding compared_at
+  compared_less h = rw (← same_is, lt-ltb same (length said) h)
+
+  pub compared-all : length said ≤ same → Ok (at + same) ≡ compared_at at said e
+  unfolding compared_at
+  compared-all h = rw (← same_is, le-ltb same (length said) h)
 
 -- two pieces: the second counts where the first is wholly there
 all_append : (r s e : List ℕ) → alike r e ≡ length r → alike (r ++ s) e ≡ length r + alike s (drop (length r) e)

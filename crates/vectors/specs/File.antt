@@ -40,6 +40,9 @@ field_at at width file =
 abbrev pub NextVector : Type 0
 NextVector = Result (Option Vector) Cut
 
+abbrev pub cut : NextVector
+cut = Err (record {})
+
 -- what a field leads to
 abbrev pub on_field : Field → (Part → NextVector) → NextVector
 on_field (Ok p) next = next p

@@ -1,5 +1,5 @@
 // What is said, compared with what is expected: up to which place they are the same.
-ghost use Rattle.std.specs.Prelude.{◌≡◌, ◌≤◌, length, Ok};
+ghost use Rattle.std.specs.Prelude.{◌≡◌, ◌≤◌, length};
 ghost use Rattle.vectors.specs.Compare.{alike, compared_at, ended_by};
 
 // Different at this place: a byte differs there, or one of the two ends there.
@@ -31,10 +31,11 @@ pub fn compare_at(said: &[u8], expected: &[u8], at: usize) -> Result<usize, Diff
     Ok(at + same)
 }
 
-// Nothing more is said than what stands up to a place: whether more is expected.
-pub fn end_at(at: usize, expected: &[u8]) -> Result<usize, Differs>
-    ensures { result ≡ ended_by (Ok at) expected.now }
+// Nothing more is said: whether more is expected.
+pub fn end_at(outcome: Result<usize, Differs>, expected: &[u8]) -> Result<usize, Differs>
+    ensures { result ≡ ended_by outcome expected.now }
 {
+    let at = outcome?;
     if at < expected.len() {
         return Err(Differs { at });
     }
