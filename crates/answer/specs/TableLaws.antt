@@ -1,5 +1,7 @@
 -- Laws: the table of requests has the kinds and rooms of the wire's. Assumes nothing.
-use Rattle.std.specs.Prelude.{ℕ, ◌≡◌, refl, Bool, true, false, cond, List, [], ◌∷◌, map, eqb, Some, unwrap_or}
+use Rattle.std.specs.Prelude.{ℕ, ◌≡◌, refl, Bool, true, false, cond, List, [], ◌∷◌, map, eqb, Option, None, Some}
+use Rattle.std.specs.Prelude.{unwrap_or}
+use Rattle.std.proofs.Common.{ap, ◌∙◌}
 use Rattle.wire.specs.Requests.{request_table, room_in, reply_room, refusal_long}
 use Rattle.answer.specs.Answer.{Line, lines, kind_in, room_by, room_for}
 
@@ -22,3 +24,9 @@ room-told (l ∷ ls) k = go (eqb k l.number) (room-told ls k)
 pub room-table : (bytes : List ℕ) → room_for bytes ≡ unwrap_or (reply_room (kind_in bytes)) refusal_long
 unfolding reply_room room_for
 room-table bytes = room-told lines (kind_in bytes)
+
+pub room-none : (bytes : List ℕ) → reply_room (kind_in bytes) ≡ None → room_for bytes ≡ refusal_long
+room-none bytes e = room-table bytes ∙ ap (λ (o : Option ℕ). unwrap_or o refusal_long) e
+
+pub room-some : (bytes : List ℕ) (n : ℕ) → reply_room (kind_in bytes) ≡ Some n → room_for bytes ≡ n
+room-some bytes n e = room-table bytes ∙ ap (λ (o : Option ℕ). unwrap_or o refusal_long) e

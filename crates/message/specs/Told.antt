@@ -3,7 +3,8 @@
 --     head_in          the head's values are what its reader says
 --     gossip-told      a message says that the bytes are well formed, and is the head's
 --     gossip-unread    a refusal says that they are not
-use Rattle.std.specs.Prelude.{ℕ, ◌+◌, ◌*◌, ◌≡◌, false, ◌&&◌, List, ◌∷◌, T, eqb, length, take, Ok, Err}
+--     gossip-untold    so does any answer that is not the message
+use Rattle.std.specs.Prelude.{ℕ, ◌+◌, ◌*◌, ◌≡◌, ◌≢◌, false, ◌&&◌, List, ◌∷◌, T, eqb, length, take, Result, Ok, Err}
 use Rattle.std.proofs.Common.{ap, ◌∙◌, eqb→eq}
 use Rattle.lists.specs.TestLaws.{and_l, and_r, is_true}
 use Rattle.stamp.specs.declared.Parts.{Parts}
@@ -11,7 +12,7 @@ use Rattle.stamp.specs.Parts.{list_of}
 use Rattle.wire.specs.Kinds.{head_kind, head_long, record_long}
 use Rattle.wire.proofs.Laws.{lawful-head}
 use Rattle.wire.specs.Read.{readable, read_as}
-use Rattle.wire.proofs.ReadLaws.{answered, unanswered, told_line}
+use Rattle.wire.proofs.ReadLaws.{answered, unanswered, not-answered, told_line}
 use Rattle.wire.specs.declared.Refusal.{Refusal}
 use Rattle.wire.specs.declared.Refusal.TheVariants.{Bad}
 use Rattle.wire.specs.Says.{Said}
@@ -63,3 +64,8 @@ module _ (bytes : List ℕ) where
   pub gossip-unread : (r : Refusal) → Err r ≡ read_gossip bytes → (well_formed bytes ≡ false) × (r ≡ Bad)
   unfolding read_gossip
   gossip-unread = unanswered (well_formed bytes) (head_kind.said (head_line bytes))
+
+  pub gossip-untold : (v : Result Said Refusal) → v ≡ read_gossip bytes → v ≢ Ok (head_kind.said (head_line bytes))
+      → well_formed bytes ≡ false
+  unfolding read_gossip
+  gossip-untold = not-answered (well_formed bytes) (head_kind.said (head_line bytes))

@@ -5,9 +5,9 @@
 use Rattle.std.specs.Prelude.{ℕ, zero, suc, ◌≤◌, ◌<◌, ◌+◌, ◌*◌, ◌≡◌, Bool, false, not, ◌&&◌, ◌||◌, leb, get_or}
 use Rattle.std.proofs.Common.{arith, sym, ap, ◌∙◌, leb→le}
 use Rattle.std.proofs.Math.Path.{refl, subst}
-use Rattle.std.proofs.Math.Bool.{true, and-false}
+use Rattle.std.proofs.Math.Bool.{true, and-true, and-false}
 use mathlib.Core.List.{List, [], ◌∷◌}
-use borrow.Author.Tests.{eq-eqb, ne_eqb}
+use borrow.Author.Tests.{eq-eqb, ne_eqb, le-leb}
 use Rattle.std.proofs.Math.Dec.{T, le→leb}
 use Rattle.std.proofs.Math.ListN.{length}
 use Rattle.lists.specs.TestLaws.{◌∈◌, get_or_in, and_l, and_r, both, given, all_from, ◌also◌, done, every-from}
@@ -37,7 +37,8 @@ use Rattle.prompts.specs.Region.{standings_at}
 use Rattle.book_log.specs.RowSound.{row_sound, rows_sound_is, record_fits_is}
 use Rattle.meaning.specs.Book.{Book, known, ready, row, waiting, clauses, sound}
 use Rattle.meaning.specs.ReadyKnown.{ready-known}
-use Rattle.lent.specs.Words.{book_long, shape_rules, Screen, Screens, Logged, Taps, Table, Value}
+use Rattle.lent.specs.Lay.{at_place}
+use Rattle.lent.specs.Words.{Name, piece_of, rank, book_long, shape_rules, Screen, Screens, Logged, Taps, Table, Value}
 use Rattle.lent.specs.Words.{Log, Counted, Prompts, piece, number_in, zero_from, book_of, in_shape, lawful}
 use Rattle.lent.specs.WordsLaws.{log-few}
 use Rattle.soundness.specs.Clauses.{fit_rules, within_rules, log_rules, counted_rules, region_rules, piece_rules}
@@ -240,9 +241,32 @@ module _ (ws : List ℕ) where
   unfolding in_shape
   shape-short n = all-off (shape_rules ws) 0 (ne_eqb (length ws) book_long n)
 
+  pub shape-off : (n : Name) → (piece_of n).rule (λ m. piece m ws) ≡ false → in_shape ws ≡ false
+  unfolding in_shape
+  shape-off n e = all-off (shape_rules ws) (suc (rank n))
+      (at_place (λ k. (piece_of k).rule (λ m. piece m ws)) true n ∙ e)
+
   pub shape_is : length ws ≡ book_long → in_shape ws ≡ (all (number_rules ws) && all (zero_rules ws))
   unfolding in_shape
   shape_is e =
       rw (eq-eqb (length ws) book_long e)
       (three_first (leb (number_in Screens ws) most) (leb (number_in Logged ws) log_room)
       (leb (number_in Taps ws) book_room) (all (zero_rules ws)))
+
+  -- with all the others kept, that of the counted taps decides
+  pub shape-last :
+      length ws ≡ book_long → number_in Screens ws ≤ most → number_in Logged ws ≤ log_room
+      → number_in Taps ws ≤ book_room
+      → (piece_of Table).rule (λ m. piece m ws) ≡ true → (piece_of Log).rule (λ m. piece m ws) ≡ true
+      → in_shape ws ≡ (piece_of Counted).rule (λ m. piece m ws)
+  unfolding in_shape
+  shape-last e n l t table log =
+      rw (
+        eq-eqb (length ws) book_long e,
+        le-leb (number_in Screens ws) most n,
+        le-leb (number_in Logged ws) log_room l,
+        le-leb (number_in Taps ws) book_room t,
+        table,
+        log,
+        and-true,
+      )

@@ -1,7 +1,8 @@
 -- Laws: what a reader's answer tells of the bytes that it read. Assumes nothing.
 --     told, unread   a message says that the bytes are readable, a refusal that they are not
+--     untold         so does any answer that is not the message
 --     told_line      and the figures of a message are then the line that the bytes hold
-use Rattle.std.specs.Prelude.{ℕ, ◌≡◌, refl, Bool, true, false, cond, List, T, Ok, Err}
+use Rattle.std.specs.Prelude.{ℕ, ◌≡◌, ◌≢◌, refl, Bool, true, false, cond, List, T, Result, Ok, Err}
 use Rattle.std.proofs.Common.{arith, sym, ap, ◌∙◌}
 use Rattle.wire.specs.declared.Refusal.{Refusal}
 use Rattle.wire.specs.declared.Refusal.TheVariants.{Bad}
@@ -20,6 +21,10 @@ pub unanswered : (c : Bool) (w : Said) (r : Refusal) → Err r ≡ cond c (Ok w)
 unanswered true w r e = let z : ◌≡◌ {A = ℕ} 0 1 = cc in absurd (omega arith)
 unanswered false w r e = (refl, cc)
 
+pub not-answered : (c : Bool) (w : Said) (v : Result Said Refusal) → v ≡ cond c (Ok w) (Err Bad) → v ≢ Ok w → c ≡ false
+not-answered true w v e n = absurd (n e)
+not-answered false w v e n = refl
+
 module _ (k : Kind) (bytes : List ℕ) where
   module _ (v : Said) (read : Ok v ≡ read_as k bytes) where
     pub told : T (readable k bytes) × (v ≡ k.said (line_of k bytes))
@@ -32,3 +37,8 @@ module _ (k : Kind) (bytes : List ℕ) where
   pub unread : (r : Refusal) → Err r ≡ read_as k bytes → (readable k bytes ≡ false) × (r ≡ Bad)
   unfolding read_as
   unread = unanswered (readable k bytes) (k.said (line_of k bytes))
+
+  pub untold : (v : Result Said Refusal) → v ≡ read_as k bytes → v ≢ Ok (k.said (line_of k bytes))
+      → readable k bytes ≡ false
+  unfolding read_as
+  untold = not-answered (readable k bytes) (k.said (line_of k bytes))
