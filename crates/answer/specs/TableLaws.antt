@@ -1,7 +1,7 @@
 -- Laws: the table of requests has the kinds and rooms of the wire's. Assumes nothing.
 use Rattle.std.specs.Prelude.{ℕ, ◌≡◌, refl, Bool, true, false, cond, List, [], ◌∷◌, map, eqb, Option, None, Some}
 use Rattle.std.specs.Prelude.{unwrap_or}
-use Rattle.std.proofs.Common.{ap, ◌∙◌}
+use Rattle.std.proofs.Common.{arith, ap, ◌∙◌}
 use Rattle.wire.specs.Requests.{request_table, room_in, reply_room, refusal_long}
 use Rattle.answer.specs.Answer.{Line, lines, kind_in, room_by, room_for}
 
@@ -10,6 +10,14 @@ told l = (l.number, l.room)
 
 pub same-table : map told lines ≡ request_table
 same-table = refl
+
+-- a line has room for something
+abbrev Roomy : List Line → Type 0
+Roomy [] = Unit {0}
+Roomy (l ∷ ls) = (l.room ≡ 0 → ⊥) × Roomy ls
+
+roomy : Roomy lines
+roomy = (λ e. omega arith, (λ e. omega arith, (λ e. omega arith, (λ e. omega arith, tt))))
 
 -- what is no request has room for a refusal, a request the room of the wire's table
 room-told : (ls : List Line) (k : ℕ) → room_by ls k ≡ unwrap_or (room_in (map told ls) k) refusal_long

@@ -75,7 +75,7 @@ pub fn gossip_stop(b: &[u64], msg: &[u8]) -> Result<Incoming, Reply>
     ensures { GossipStopOn b.now msg.now result }
 {
     if !sound(b) {
-        return Err(Reply::from(Refusal::Unsound));
+        return Err(Refusal::Unsound.into());
     }
     let head = read_gossip(msg)?;
     stop_gossip(b, msg, head)

@@ -4,7 +4,7 @@ use native.Mathlib.Omega.{arith}
 use mathlib.Core.Path.{◌≡◌, refl, sym, ap, ap₂, ◌∙◌}
 use mathlib.Core.Bool.{true, false}
 use mathlib.Core.List.{List, [], ◌∷◌, ◌++◌, append_assoc, append-nil}
-use lib.ListN.{length, take, drop, replicate}
+use lib.ListN.{length, take, drop, replicate, take-append-drop}
 use lib.Seq.{drop-drop}
 use Rattle.lists.specs.Part.{mid, patch, length-mid, length-patch, mid-patch, drop_past}
 use Rattle.lists.specs.Rows.{rows}
@@ -16,6 +16,11 @@ use Rattle.book_log.specs.Lowest.{goes_by}
 use Rattle.book_log.specs.Walk.{records_from, row_record, records-all, records-next, records-none}
 use Rattle.log_edit.specs.Merge.{stayers, dropped}
 use Rattle.log_edit.specs.RowLaws.{records_snoc, records-same, take-before, flat-records}
+
+-- a row over itself
+pub patch_self : (a k : ℕ) (r : List ℕ) → patch a k r (mid a k r) ≡ r
+unfolding mid patch
+patch_self a k r = ap (λ (l : List ℕ). take a r ++ l) (take-append-drop k (drop a r)) ∙ take-append-drop a r
 
 -- of the rows from the i-th of n on, the records that stay
 abbrev to_come : Stamp → Stamp → ℕ → List ℕ → ℕ → List Record

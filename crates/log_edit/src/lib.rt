@@ -72,11 +72,14 @@ fn goes_at(r: &[u64], i: usize, ready: &[u64; PARTS], low: &[u64]) -> bool
     goes(&rows_of::<ROW>(r, i + 1)[i], ready, low)
 }
 
-// A row copied over one before it.
+// A row copied over one before it; a row over itself is not touched.
 fn move_row(r: &mut [u64], from: usize, to: usize)
     requires { (from * row_long + row_long ≤ length r.old) × (to ≤ from) }
     ensures { r.new ≡ patch (to * row_long) row_long r.old (mid (from * row_long) row_long r.old) }
 {
+    if to == from {
+        return;
+    }
     let at = from * ROW;
     let e = at + ROW;
     r.copy_within(at..e, to * ROW);

@@ -54,6 +54,9 @@ width_more m i w h =
     let e : w - i ≡ suc k = omega arith in
     rw (e, pow-suc 256 k) (same_test m (256 ^ k * 256) (m / 256) (256 ^ k) (λ l. omega arith) (λ l. omega arith))
 
+pub width-end : (i : ℕ) → ltb 0 (256 ^ i) ≡ true
+width-end i = lt-ltb 0 (256 ^ i) (omega (arith, pow-le-pow_right {n = 256} (lit< tt) {i = 0} {j = i} (omega arith)))
+
 -- what `number_of` goes by, and what a part at a place goes by
 pub ruleset bytes_read = (number_more, number_grows, number_fits)
 

@@ -55,13 +55,16 @@ pub fn put_number_at(s: &mut [u8], at: usize, w: usize, n: u64)
     put_number(&mut s[at..at + w], n);
 }
 
-// Whether w bytes hold n: so many divisions leave nothing.
+// Whether w bytes hold n: so many divisions leave nothing. It ends with what is left of n, however many w is.
 #[tactic(auto, using(crate::proofs::Step::width_more))]
 pub fn fits_width(n: u64, w: usize) -> bool
     ensures { result ≡ ltb n (256 ^ w) }
 {
     let mut m = n;
     for _ in 0..w {
+        if m == 0 {
+            return true;
+        }
         m /= BASE;
     }
     m == 0

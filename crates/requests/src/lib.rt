@@ -168,6 +168,8 @@ pub fn write_head(head: Head, out: &mut [u8]) -> Result<usize, Refusal>
     put_line(&head_widths(), HEAD_SIZE, &line, out)
 }
 
+// Always in line: a record is judged in the registers that it was read into, and not by way of memory.
+#[inline(always)]
 fn record_fits(entry: Record, n: usize, m: Parts) -> bool
     ensures { result ≡ (record_kind n (list_of m)).rules (figures (record_says entry)) }
 {

@@ -199,9 +199,11 @@ fn regions_sound(p: &Pieces<'_>, known: &[u64; PARTS], ready: &[u64; PARTS]) -> 
         ≡ all (region_rules (length p.now.table.now) known.now ready.now p.now.table.now p.now.value.now
         (records_of p.now.log.now) (word_taps p.now.counted.now) (standings_at p.now.prompts.now)) }
 {
+    if !stamps_within(p.table, p.value, known) {
+        return false;
+    }
     let low = lowest(known, p.table);
-    stamps_within(p.table, p.value, known)
-        && log_sound(p.log, p.table.len(), known, ready, &low, p.value)
+    log_sound(p.log, p.table.len(), known, ready, &low, p.value)
         && counted_sound(p.counted, p.log, known, ready)
         && counts_follow(p.prompts, p.counted)
 }

@@ -1,4 +1,5 @@
 pub mod Says
+pub mod SaysLaws
 pub mod Refusal
 pub mod Said
 pub mod Requests

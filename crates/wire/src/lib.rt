@@ -228,7 +228,8 @@ pub fn is_kind(msg: &[u8], kind: u8) -> bool
 }
 
 // The row of numbers that the bytes hold, one for each width; refused with 1 where they are not of this kind and of its
-// length.
+// length. Always in line: a reader of whose row little is asked reads no more, and none of bytes of another kind.
+#[inline(always)]
 pub fn read_line<const N: usize>(kind: u8, ws: &[usize; N], msg: &[u8]) -> Result<[u64; N], Refusal>
     requires { IsWidths kind ws.now }
     ensures { result ≡ line_as kind ws.now msg.now }

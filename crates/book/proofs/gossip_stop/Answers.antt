@@ -17,7 +17,7 @@ pub returns-then-not-sound : goal.returns-then-not-sound
 unfolding gossip_stop
 returns-then-not-sound c =
     let s = c.args in
-    rw c.from.ensures
+    rw c.into.ensures
     (stop_unsound s.b.now (sym c.sound.ensures ∙ not-true _ c.if-not-sound.true-raw) (well_formed s.msg.now)
     (first_of (gossip_stops (book_of s.b.now) (message_of s.msg.now))))
 
